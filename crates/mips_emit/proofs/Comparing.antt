@@ -5,7 +5,8 @@ use Rattle.std.specs.Prelude.{◌&&◌, not, if◌then◌else◌, slice_get}
 use Rattle.std.proofs.lemmas.Int.{ints}
 use Rattle.std.proofs.lemmas.Bool.Decides.{nat_tests}
 use Rattle.std.proofs.lemmas.Option.{same_Some, none-some}
-use Rattle.std.proofs.lemmas.Bool.{and_parts, not-true}
+use Rattle.std.proofs.lemmas.Bool.{and_parts, not-true, cond_both}
+use Rattle.words.specs.declared.sign.Sign.{Sign}
 use Rattle.words.specs.declared.sign.Sign.TheVariants.{Signed, Unsigned}
 use Rattle.words.specs.C.{is_below}
 use Rattle.runs.specs.Stores.{Places, places_with, Arrays}
@@ -38,26 +39,24 @@ use Rattle.mips_emit.specs.Code.{known_operand, operand_with, nop, fetch, operan
 use Rattle.mips_emit.specs.Comparisons.{is_known_zero, is_immediate, opposite_if, form_of, truth_of, known_truth, form_with, opposite_op, code_by_form, comparison_code, is_asked, is_caller_saved}
 use Rattle.mips_emit.specs.Comparisons.{form_for, operator_comparison, comparison_of, last_with, is_result, returned}
 use Rattle.mips_emit.proofs.Runs.{RunsTo, if_some, runs_then}
-use Rattle.mips_emit.proofs.View.{IsTarget, t2, first_inner, read_register}
+use Rattle.mips_emit.proofs.View.{IsTarget, t2, read_register}
 use Rattle.mips_emit.proofs.Stands.{Stored, Stands}
 use Rattle.mips_emit.proofs.Operands.{passes, IsLast, none_fresh, IsKnown, Denotes, IsAway, operand_register_kept, longer_behind, runs_nop, hide}
-use Rattle.mips_emit.proofs.Operands.{AreDeferred, one_deferred}
+use Rattle.mips_emit.proofs.Operands.{AreDeferred, defers}
 use Rattle.mips_emit.proofs.Homes.{fewer_stand, operand_below, operand_means, fetches, ends_stands}
-use Rattle.mips_emit.proofs.Insts.{Computed, value_or_failed, computes}
+use Rattle.mips_emit.proofs.Insts.{Computed, value_or_failed, IsOperand, computes, operand_is}
 
 -- ---- truth words
 
-truth : (b : Bool) → b ≡ not (nat_eq (truth_word b) 0)
-truth true = refl
-truth false = refl
+-- what a result says that is a truth word
+said : (b : Bool) (u : ℕ) → Some (truth_word b) ≡ Some u → b ≡ not (nat_eq u 0)
+said b u e = grind (arith, nat_tests)
 
-truth_opposite : (b : Bool) → nat_eq (truth_word (not b)) 0 ≡ not (nat_eq (truth_word b) 0)
-truth_opposite true = refl
-truth_opposite false = refl
+said_opposite : (b : Bool) (u : ℕ) → Some (truth_word b) ≡ Some u → nat_eq (truth_word (not b)) 0 ≡ not (nat_eq u 0)
+said_opposite b u e = grind (arith, nat_tests)
 
-opposite_truth : (b : Bool) → nat_eq (truth_word b) 0 ≡ not (nat_eq (truth_word (not b)) 0)
-opposite_truth true = refl
-opposite_truth false = refl
+opposite_said : (b : Bool) (u : ℕ) → Some (truth_word (not b)) ≡ Some u → nat_eq (truth_word b) 0 ≡ not (nat_eq u 0)
+opposite_said b u e = grind (arith, nat_tests)
 
 -- ---- the sign of a word
 
@@ -77,20 +76,28 @@ known_zero : (k : Option ℕ) (v : ℕ) → ((c : ℕ) → k ≡ Some c → c �
 known_zero None v said is = absurd (true≢false (sym is))
 known_zero (Some c) v said is = sym (said c refl) ∙ eqb-true c 0 is
 
--- what is one with an exit is what the exit asks for, in the form that it has there
+abbrev comparison_at : Locations → Facts → Op → (d a b : ℕ) → Form → Comparison
+comparison_at at facts op d a b form = record { result = d; op = op; form = form; left = operand_with at facts a; right = operand_with at facts b }
+
+-- an operator that is one with an exit is what the exit asks for, in the form that it has there
+operator_asked : (at : Locations) (facts : Facts) (asked : Asked) (op : Op) (d a b : ℕ) (m : Comparison) → comparison_of at facts asked (Bin op d a b) ≡ Some m
+    → (is_asked asked d ≡ true) × (is_caller_saved (at d) ≡ true) × (form_for asked op (known_in facts a) (known_in facts b) ≡ Some m.form)
+    × (comparison_at at facts op d a b m.form ≡ m)
+operator_asked at facts asked op d a b m e =
+    let there = if_some (is_asked asked d && is_caller_saved (at d)) _ m e in
+    let parts = and_parts (is_asked asked d) (is_caller_saved (at d)) there.0 in
+    by parts.0 parts.1 (form_for asked op (known_in facts a) (known_in facts b)) refl there.1
+  where
+    by : is_asked asked d ≡ true → is_caller_saved (at d) ≡ true → (o : Option Form) → form_for asked op (known_in facts a) (known_in facts b) ≡ o
+        → operator_comparison d op (operand_with at facts a) (operand_with at facts b) o ≡ Some m
+        → (is_asked asked d ≡ true) × (is_caller_saved (at d) ≡ true) × (form_for asked op (known_in facts a) (known_in facts b) ≡ Some m.form)
+        × (comparison_at at facts op d a b m.form ≡ m)
+    by t saved None is e = absurd (none-some m e)
+    by t saved (Some form) is e = rw (same_Some m _ (sym e)) (t, saved, is, refl)
+
 asked_for : (at : Locations) (facts : Facts) (asked : Asked) (i : RInst) (m : Comparison) → comparison_of at facts asked i ≡ Some m
     → (is_asked asked m.result ≡ true) × (form_for asked m.op m.left.known m.right.known ≡ Some m.form)
-asked_for at facts asked (Bin op d a b) m e =
-    let there = if_some (is_asked asked d && is_caller_saved (at d)) (operator_comparison d op (operand_with at facts a) (operand_with at facts b) form) m e in
-    by (and_parts (is_asked asked d) (is_caller_saved (at d)) there.0).0 form refl there.1
-  where
-    form : Option Form
-    form = form_for asked op (known_in facts a) (known_in facts b)
-
-    by : is_asked asked d ≡ true → (o : Option Form) → form ≡ o → operator_comparison d op (operand_with at facts a) (operand_with at facts b) o ≡ Some m
-        → (is_asked asked m.result ≡ true) × (form_for asked m.op m.left.known m.right.known ≡ Some m.form)
-    by t None is e = absurd (none-some m e)
-    by t (Some form) is e = rw (same_Some m _ (sym e)) (t, is)
+asked_for at facts asked (Bin op d a b) m e = let it = operator_asked at facts asked op d a b m e in rw (← it.3) (it.0, it.2)
 asked_for at facts asked _ m e = absurd (none-some m e)
 
 -- nothing is one with a branch that doesn't stand behind it
@@ -108,16 +115,27 @@ returned_result at facts c i m e =
     let is = asked_for at facts (Returned c) i m e in
     ap₂ (λ form b. is_result form && b) (sym (same_Some InResult m.form is.1)) (eq-eqb m.result c (sym (eqb-true c m.result is.0)))
 
-t3 : IsTarget 3
-t3 = record { low = omega arith; high = omega arith }
-
-abbrev comparison_at : List Home → Facts → Op → (d a b : ℕ) → Form → Comparison
-comparison_at homes facts op d a b form =
-    record { result = d; op = op; form = form; left = operand_with (slice_get homes) facts a; right = operand_with (slice_get homes) facts b }
-
 -- what is known then: nothing but that a register doesn't hold its word
 abbrev pub waiting : Facts → (q u : ℕ) → Facts
 waiting facts q u = record { known = []; deferred = places_with facts.deferred q (Some u); kept = None; offset = None }
+
+-- what is left then is the comparison alone, whose result would be in register q
+is_waiting : {hs : List Home} (registers slots : Places) {s : State} (m : Comparison) (q u : ℕ) → slice_get hs m.result ≡ Some (Reg q)
+    → passes m.form m.left.source m.right.source s ≡ not (nat_eq u 0) → (is_result m.form ≡ true → s.regs 2 ≡ u)
+    → IsLast (last_with (Some m) None) hs (places_with registers q (Some u)) slots s
+is_waiting {hs} registers slots {s} m q u at tells result = record {
+  fresh = none_fresh hs (places_with registers q (Some u)) slots s;
+  comparison = λ n c same holds. (let is = same_Some n m (sym same) in rw is (tells ∙ ap (λ u. not (nat_eq u 0)) (there c (rw is at holds))));
+  result = λ n c same is_it holds. (let is = same_Some n m (sym same) in result (rw is at is_it) ∙ there c (rw is at holds));
+}
+  where
+    there : (c : ℕ) → read_home hs (places_with registers q (Some u)) slots m.result ≡ Some c → u ≡ c
+    there c holds = same_Some u c (rw (at, eq-eqb q q refl) at holds)
+
+-- a home that no other block reads is a register
+saved_register : (o : Option Home) → is_caller_saved o ≡ true → (q : ℕ) × (o ≡ Some (Reg q)) × (is_callee_saved q ≡ false)
+saved_register (Some (Reg q)) e = (q, refl, not-true (is_callee_saved q) e)
+saved_register _ e = absurd (true≢false (sym e))
 
 module _ {most total : ℕ} {gs : List RGlobal} {starts : ℕ → ℕ} where
   module _ {registers : Places} {g : Arrays} {top : Stored} {fs : List Stored} {s : State} (h : Stands most total gs starts registers g (top ∷ fs) s) where
@@ -130,20 +148,16 @@ module _ {most total : ℕ} {gs : List RGlobal} {starts : ℕ → ℕ} where
       pub tells : passes form x y to ≡ not (nat_eq u 0)
       pub result : is_result form ≡ true → to.regs 2 ≡ u
 
-    abbrev Means : Source → ℕ → Type 0
-    Means x v = (s : State) → Stands most total gs starts registers g (top ∷ fs) s → Denotes top.count s x v
-
-    module _ (v w u : ℕ) (k l : Option ℕ) (x y : Source) (x_away : IsAway x) (y_away : IsAway y) (x_means : Means x v) (y_means : Means y w)
-        (kv : (c : ℕ) → k ≡ Some c → c ≡ v) (lw : (c : ℕ) → l ≡ Some c → c ≡ w) (vb : v < 2 ^ 32) (wb : w < 2 ^ 32) where
+    module _ {k l : Option ℕ} {x y : Source} {v w : ℕ} (u : ℕ) (x_is : IsOperand h k x v) (y_is : IsOperand h l y w) where
       abbrev Given : Op → Form → Type 0
       Given op form = Decided (code_by_form form op (known_operand k x) (known_operand l y)) form x y u
 
       on_pair : (test : PairTest) → pair_passes test v w ≡ not (nat_eq u 0) → Decided (fetch 1 x ++ (fetch 3 y ++ nop ∷ [])) (OnPair test) x y u
       on_pair test e =
-          let a = fetches h 1 v x (omega arith) (omega arith) (x_means s h) in
+          let a = fetches h 1 v x (omega arith) (omega arith) (x_is.means s h) in
           let s1 : State = record s { regs = a.regs } in
-          let b = fetches a.stands 3 w y (omega arith) (omega arith) (y_means s1 a.stands) in
-          let left = operand_register_kept x 1 3 a.regs b.regs x_away (λ e. absurd (omega (arith, e))) (omega arith) b.others ∙ a.here in
+          let b = fetches a.stands 3 w y (omega arith) (omega arith) (y_is.means s1 a.stands) in
+          let left = operand_register_kept x 1 3 a.regs b.regs x_is.away (omega arith) (omega arith) b.others ∙ a.here in
           record {
             to = record s1 { regs = b.regs };
             runs = runs_then a.runs (runs_then b.runs (runs_nop (record s1 { regs = b.regs })));
@@ -154,10 +168,10 @@ module _ {most total : ℕ} {gs : List RGlobal} {starts : ℕ → ℕ} where
           }
 
       -- one operand alone, in register 3
-      on_one : (z : Source) (c : ℕ) → Means z c → (form : Form) → is_result form ≡ false
+      on_one : {o : Option ℕ} {z : Source} {c : ℕ} → IsOperand h o z c → (form : Form) → is_result form ≡ false
           → ((m : State) → read 0 m.regs (operand_register 3 z) ≡ c → passes form x y m ≡ not (nat_eq u 0)) → Decided (fetch 3 z ++ nop ∷ []) form x y u
-      on_one z c z_means form plain tells =
-          let a = fetches h 3 c z (omega arith) (omega arith) (z_means s h) in
+      on_one {z} {c} z_is form plain tells =
+          let a = fetches h 3 c z (omega arith) (omega arith) (z_is.means s h) in
           let s1 : State = record s { regs = a.regs } in
           record {
             to = s1;
@@ -169,16 +183,16 @@ module _ {most total : ℕ} {gs : List RGlobal} {starts : ℕ → ℕ} where
           }
 
       on_left : (test : ZeroTest) → zero_passes test v ≡ not (nat_eq u 0) → Decided (fetch 3 x ++ nop ∷ []) (OnLeft test) x y u
-      on_left test e = on_one x v x_means (OnLeft test) refl (λ m here. ap (zero_passes test) here ∙ e)
+      on_left test e = on_one x_is (OnLeft test) refl (λ m here. ap (zero_passes test) here ∙ e)
 
       on_right : (test : ZeroTest) → zero_passes test w ≡ not (nat_eq u 0) → Decided (fetch 3 y ++ nop ∷ []) (OnRight test) x y u
-      on_right test e = on_one y w y_means (OnRight test) refl (λ m here. ap (zero_passes test) here ∙ e)
+      on_right test e = on_one y_is (OnRight test) refl (λ m here. ap (zero_passes test) here ∙ e)
 
       -- the result of an operator, in register t
-      from_result : (is : List Plain) (form : Form) (t c : ℕ) → t < 4 → Computed h is t c
+      from_result : {is : List Plain} {form : Form} {t c : ℕ} → t < 4 → Computed h is t c
           → ((m : State) → m.regs t ≡ c → passes form x y m ≡ not (nat_eq u 0)) → ((m : State) → m.regs t ≡ c → is_result form ≡ true → m.regs 2 ≡ u)
           → Decided is form x y u
-      from_result is form t c low z tells result =
+      from_result low z tells result =
           let m : State = record z.to { regs = (z.ends).regs } in
           record {
             to = m;
@@ -190,64 +204,39 @@ module _ {most total : ℕ} {gs : List RGlobal} {starts : ℕ → ℕ} where
           }
 
       by_result : (op : Op) → op_result op v w ≡ Some u → Given op ByResult
-      by_result op e =
-          from_result (op_code op 1 3 (known_operand k x) (known_operand l y)) ByResult 3 u (omega arith)
-          (computes h op 1 3 v w u k l x y first_inner t3 x_away y_away x_means y_means kv lw vb wb e)
-          (λ m here. ap (λ c. not (c == 0)) (read_register m.regs 3 (omega arith) ∙ here)) (λ m here e. absurd (true≢false (sym e)))
+      by_result op e = from_result (omega arith) (computes h op 1 3 u (omega arith) (omega arith) x_is y_is e) (λ m here. ap (λ c. not (c == 0)) here)
+          (λ m here e. absurd (true≢false (sym e)))
 
       by_opposite : (op : Op) (t : ℕ) → op_result (opposite_op op) w v ≡ Some t → nat_eq t 0 ≡ not (nat_eq u 0) → Given op ByOpposite
-      by_opposite op t e turned =
-          from_result (op_code (opposite_op op) 1 3 (known_operand l y) (known_operand k x)) ByOpposite 3 t (omega arith)
-          (computes h (opposite_op op) 1 3 w v t l k y x first_inner t3 y_away x_away y_means x_means lw kv wb vb e)
-          (λ m here. ap (λ c. c == 0) (read_register m.regs 3 (omega arith) ∙ here) ∙ turned) (λ m here e. absurd (true≢false (sym e)))
+      by_opposite op t e turned = from_result (omega arith) (computes h (opposite_op op) 1 3 t (omega arith) (omega arith) y_is x_is e)
+          (λ m here. ap (λ c. c == 0) here ∙ turned) (λ m here e. absurd (true≢false (sym e)))
 
-      in_result : (op : Op) → op_result op v w ≡ Some u → Given op InResult
-      in_result op e =
-          from_result (op_code op 1 2 (known_operand k x) (known_operand l y)) InResult 2 u (omega arith)
-          (computes h op 1 2 v w u k l x y first_inner t2 x_away y_away x_means y_means kv lw vb wb e)
-          (λ m here. ap (λ c. not (c == 0)) (read_register m.regs 2 (omega arith) ∙ here)) (λ m here _. here)
+      -- one word is less than the other, or at most that
+      less : (op : Op) (sign : Sign) (c : Bool) → op_result op v w ≡ Some (truth_word (is_below sign v w))
+          → op_result (opposite_op op) w v ≡ Some (truth_word (not (is_below sign v w))) → op_result op v w ≡ Some u → Given op (opposite_if c)
+      less op sign true is turned e = by_opposite op _ turned (said_opposite (is_below sign v w) u (sym is ∙ e))
+      less op sign false is turned e = by_result op e
 
-      -- the result is a truth word
-      said : (b : Bool) → Some (truth_word b) ≡ Some u → b ≡ not (nat_eq u 0)
-      said b e = truth b ∙ ap (λ u. not (nat_eq u 0)) (same_Some (truth_word b) u e)
-
-      said_opposite : (b : Bool) → Some (truth_word b) ≡ Some u → nat_eq (truth_word (not b)) 0 ≡ not (nat_eq u 0)
-      said_opposite b e = truth_opposite b ∙ ap (λ u. not (nat_eq u 0)) (same_Some (truth_word b) u e)
-
-      opposite_said : (b : Bool) → Some (truth_word (not b)) ≡ Some u → nat_eq (truth_word b) 0 ≡ not (nat_eq u 0)
-      opposite_said b e = opposite_truth b ∙ ap (λ u. not (nat_eq u 0)) (same_Some (truth_word (not b)) u e)
-
-      signed_less : op_result LtS v w ≡ Some u → (a b c : Bool) → is_known_zero k ≡ a → is_known_zero l ≡ b
-          → Given LtS (if a then OnRight AboveZero else if b then OnLeft BelowZero else opposite_if c)
-      signed_less e true b c ka lb = on_right AboveZero (above_zero w wb ∙ ap (λ v. is_below Signed v w) (sym (known_zero k v kv ka)) ∙ said (is_below Signed v w) e)
-      signed_less e false true c ka lb = on_left BelowZero (below_zero v vb ∙ ap (is_below Signed v) (sym (known_zero l w lw lb)) ∙ said (is_below Signed v w) e)
-      signed_less e false false true ka lb = by_opposite LtS (truth_word (not (is_below Signed v w))) refl (said_opposite (is_below Signed v w) e)
-      signed_less e false false false ka lb = by_result LtS e
-
-      less : op_result LtU v w ≡ Some u → (c : Bool) → Given LtU (opposite_if c)
-      less e true = by_opposite LtU (truth_word (not (is_below Unsigned v w))) refl (said_opposite (is_below Unsigned v w) e)
-      less e false = by_result LtU e
-
-      signed_at_most : op_result LeS v w ≡ Some u → (a b c : Bool) → is_known_zero l ≡ a → is_known_zero k ≡ b
-          → Given LeS (if a then OnLeft AtMostZero else if b then OnRight AtLeastZero else opposite_if c)
-      signed_at_most e true b c la kb =
-          on_left AtMostZero (at_most_zero v vb ∙ ap (λ w. not (is_below Signed w v)) (sym (known_zero l w lw la)) ∙ said (not (is_below Signed w v)) e)
-      signed_at_most e false true c la kb =
-          on_right AtLeastZero (at_least_zero w wb ∙ ap (λ v. not (is_below Signed w v)) (sym (known_zero k v kv kb)) ∙ said (not (is_below Signed w v)) e)
-      signed_at_most e false false true la kb = by_opposite LeS (truth_word (is_below Signed w v)) refl (opposite_said (is_below Signed w v) e)
-      signed_at_most e false false false la kb = by_result LeS e
-
-      at_most : op_result LeU v w ≡ Some u → (c : Bool) → Given LeU (opposite_if c)
-      at_most e true = by_opposite LeU (truth_word (is_below Unsigned w v)) refl (opposite_said (is_below Unsigned w v) e)
-      at_most e false = by_result LeU e
+      at_most : (op : Op) (sign : Sign) (c : Bool) → op_result op v w ≡ Some (truth_word (not (is_below sign w v)))
+          → op_result (opposite_op op) w v ≡ Some (truth_word (is_below sign w v)) → op_result op v w ≡ Some u → Given op (opposite_if c)
+      at_most op sign true is turned e = by_opposite op _ turned (opposite_said (is_below sign w v) u (sym is ∙ e))
+      at_most op sign false is turned e = by_result op e
 
       pub decides : (op : Op) (form : Form) → form_of op k l ≡ Some form → op_result op v w ≡ Some u → Given op form
-      decides Eq form is e = subst (Given Eq) (same_Some (OnPair Equal) form is) (on_pair Equal (said (v == w) e))
-      decides Ne form is e = subst (Given Ne) (same_Some (OnPair NotEqual) form is) (on_pair NotEqual (said (not (v == w)) e))
-      decides LtS form is e = subst (Given LtS) (same_Some _ form is) (signed_less e (is_known_zero k) (is_known_zero l) (is_immediate LeS k) refl refl)
-      decides LtU form is e = subst (Given LtU) (same_Some _ form is) (less e (is_immediate LeU k))
-      decides LeS form is e = subst (Given LeS) (same_Some _ form is) (signed_at_most e (is_known_zero l) (is_known_zero k) (not (is_immediate LeS l)) refl refl)
-      decides LeU form is e = subst (Given LeU) (same_Some _ form is) (at_most e (not (is_immediate LeU l)))
+      decides Eq form is e = subst (Given Eq) (same_Some (OnPair Equal) form is) (on_pair Equal (said (v == w) u e))
+      decides Ne form is e = subst (Given Ne) (same_Some (OnPair NotEqual) form is) (on_pair NotEqual (said (not (v == w)) u e))
+      decides LtS form is e = subst (Given LtS) (same_Some _ form is) (cond_both (is_known_zero k) (OnRight AboveZero) _ (Given LtS)
+          (λ z. on_right AboveZero (above_zero w y_is.below ∙ said (is_below Signed 0 w) u (rw (known_zero k v x_is.said z) at e)))
+          (λ _. cond_both (is_known_zero l) (OnLeft BelowZero) _ (Given LtS)
+          (λ z. on_left BelowZero (below_zero v x_is.below ∙ said (is_below Signed v 0) u (rw (known_zero l w y_is.said z) at e)))
+          (λ _. less LtS Signed (is_immediate LeS k) refl refl e)))
+      decides LtU form is e = subst (Given LtU) (same_Some _ form is) (less LtU Unsigned (is_immediate LeU k) refl refl e)
+      decides LeS form is e = subst (Given LeS) (same_Some _ form is) (cond_both (is_known_zero l) (OnLeft AtMostZero) _ (Given LeS)
+          (λ z. on_left AtMostZero (at_most_zero v x_is.below ∙ said (not (is_below Signed 0 v)) u (rw (known_zero l w y_is.said z) at e)))
+          (λ _. cond_both (is_known_zero k) (OnRight AtLeastZero) _ (Given LeS)
+          (λ z. on_right AtLeastZero (at_least_zero w y_is.below ∙ said (not (is_below Signed w 0)) u (rw (known_zero k v x_is.said z) at e)))
+          (λ _. at_most LeS Signed (not (is_immediate LeS l)) refl refl e)))
+      decides LeU form is e = subst (Given LeU) (same_Some _ form is) (at_most LeU Unsigned (not (is_immediate LeU l)) refl refl e)
       decides _ form is e = absurd (none-some form is)
 
       -- both are known, and so is the truth
@@ -267,14 +256,15 @@ module _ {most total : ℕ} {gs : List RGlobal} {starts : ℕ → ℕ} where
       with_truth op form None b ka lb (Some made) is e r = decides op form (is ∙ e) r
       with_truth op form (Some a) None ka lb (Some made) is e r = decides op form (is ∙ e) r
       with_truth op form (Some a) (Some b) ka lb (Some made) is e r =
-          let there : op_result op a b ≡ Some u = ap₂ (op_result op) (kv a ka) (lw b lb) ∙ r in
+          let there : op_result op a b ≡ Some u = ap₂ (op_result op) (x_is.said a ka) (y_is.said b lb) ∙ r in
           let is_known : Some (Known (not (nat_eq u 0))) ≡ Some form = sym (ap (λ o. form_with (truth_of o) (Some made)) there) ∙ e in
           subst (Given op) (same_Some (Known (not (nat_eq u 0))) form is_known) (known op (not (nat_eq u 0)) refl)
 
       pub decides_for : (asked : Asked) (op : Op) (form : Form) → form_for asked op k l ≡ Some form → op_result op v w ≡ Some u → Given op form
       decides_for Nothing op form is e = absurd (none-some form is)
       decides_for (Branched c) op form is e = with_truth op form k l refl refl (form_of op k l) refl is e
-      decides_for (Returned c) op form is e = subst (Given op) (same_Some InResult form is) (in_result op e)
+      decides_for (Returned c) op form is e = subst (Given op) (same_Some InResult form is) (from_result (omega arith)
+          (computes h op 1 2 u (omega arith) t2 x_is y_is e) (λ m here. ap (λ c. not (c == 0)) here) (λ m here _. here))
 
 module _ (most total : ℕ) (gs : List RGlobal) (starts : ℕ → ℕ) where
   module _ (g : Arrays) (fs : List Stored) (P : Run → Type 0) (out : List ℕ) (failed : P (Failed out)) where
@@ -286,56 +276,23 @@ module _ (most total : ℕ) (gs : List RGlobal) (starts : ℕ → ℕ) where
         → IsLast (last_with (Some m) None) top.homes (places_with registers q (Some u)) top.slots s'
         → P (go (places_with registers q (Some u)) top.slots g)
 
-    compares_bin : (asked : Asked) (op : Op) (d a b : ℕ) (facts : Facts) (form : Form) (registers : Places) (top : Stored) (s : State)
-        (go : Places → Places → Arrays → Run) → form_for asked op (known_in facts a) (known_in facts b) ≡ Some form → is_caller_saved (slice_get top.homes d) ≡ true
-        → AreFrameHomes top.homes top.count → IsKnown (known_in facts) top.homes registers top.slots → AreDeferred facts.deferred registers
-        → Stands most total gs starts (hide facts.deferred registers) g (top ∷ fs) s
-        → Leaves facts registers top s go (comparison_at top.homes facts op d a b form)
-        → P (with_inst gs (Bin op d a b) (cells top.homes registers top.slots) g out go)
-    compares_bin asked op d a b facts form registers top s go is caller_saved ok k lz h f =
-        value_or_failed P (read_home top.homes registers top.slots a) out _ failed (λ v ev.
-        value_or_failed P (read_home top.homes registers top.slots b) out _ failed (λ w ew.
-        value_or_failed P (op_result op v w) out _ failed (λ u eu.
-        let vb = operand_below h lz a v ok ev in
-        let wb = operand_below h lz b w ok ew in
-        let z = decides_for h v w u (known_in facts a) (known_in facts b) (operand (slice_get top.homes) facts a) (operand (slice_get top.homes) facts b)
-        (operand_means h lz a v ok k ev).1 (operand_means h lz b w ok k ew).1 (λ s h. (operand_means h lz a v ok k ev).0) (λ s h. (operand_means h lz b w ok k ew).0)
-        (λ c is. same_Some c v (sym (k.by a c is) ∙ ev)) (λ c is. same_Some c w (sym (k.by b c is) ∙ ew)) vb wb asked op form is eu in
-        write u (result-word op v w u vb wb eu) z (slice_get top.homes d) refl caller_saved)))
-      where
-        write : (u : ℕ) → u < 2 ^ 32
-            → Decided h (code_by_form form op (operand_with (slice_get top.homes) facts a)
-            (operand_with (slice_get top.homes) facts b)) form (operand (slice_get top.homes) facts a) (operand (slice_get top.homes) facts b) u
-            → (o : Option Home) → slice_get top.homes d ≡ o → is_caller_saved o ≡ true
-            → P (with_value o out (λ h. write_at h registers top.slots u (λ r s. go r s g)))
-        write u below z (Some (Reg q)) at passes_by =
-            let there : read_home top.homes (places_with registers q (Some u)) top.slots d ≡ Some u = rw (at, eq-eqb q q refl) refl in
-            let m = comparison_at top.homes facts op d a b form in
-            f q u z.to z.some z.runs (fewer_stand z.stands (λ r c e. grind (arith, nat_tests)))
-            (one_deferred q u (not-true (is_callee_saved q) passes_by) below lz)
-            (record {
-              fresh = none_fresh top.homes (places_with registers q (Some u)) top.slots z.to;
-              comparison = λ n c same holds. (let is : n ≡ m = same_Some n m (sym same) in
-                  rw is (z.tells ∙ ap (λ u. not (nat_eq u 0)) (same_Some u c (sym there ∙ (rw is at holds)))));
-              result = λ n c same is_it holds. (let is : n ≡ m = same_Some n m (sym same) in
-                  z.result (rw is at is_it) ∙ same_Some u c (sym there ∙ (rw is at holds)));
-            })
-        write u below z _ at passes_by = absurd (true≢false (sym passes_by))
-
     pub compares : (i : RInst) (facts : Facts) (asked : Asked) (m : Comparison) (registers : Places) (top : Stored) (s : State)
         (go : Places → Places → Arrays → Run) → comparison_of (slice_get top.homes) facts asked i ≡ Some m
         → AreFrameHomes top.homes top.count → IsKnown (known_in facts) top.homes registers top.slots → AreDeferred facts.deferred registers
         → Stands most total gs starts (hide facts.deferred registers) g (top ∷ fs) s → Leaves facts registers top s go m
         → P (with_inst gs i (cells top.homes registers top.slots) g out go)
     compares (Bin op d a b) facts asked m registers top s go e ok k lz h f =
-        let there = if_some (is_asked asked d && is_caller_saved (slice_get top.homes d)) (operator_comparison d op (operand_with (slice_get top.homes) facts a)
-        (operand_with (slice_get top.homes) facts b) (form_for asked op (known_in facts a) (known_in facts b))) m e in
-        by (form_for asked op (known_in facts a) (known_in facts b)) refl there.1 (and_parts (is_asked asked d) (is_caller_saved (slice_get top.homes d)) there.0).1
-      where
-        by : (o : Option Form) → form_for asked op (known_in facts a) (known_in facts b) ≡ o
-            → operator_comparison d op (operand_with (slice_get top.homes) facts a) (operand_with (slice_get top.homes) facts b) o ≡ Some m
-            → is_caller_saved (slice_get top.homes d) ≡ true → P (with_inst gs (Bin op d a b) (cells top.homes registers top.slots) g out go)
-        by None is e caller_saved = absurd (none-some m e)
-        by (Some form) is e caller_saved =
-            compares_bin asked op d a b facts form registers top s go is caller_saved ok k lz h (subst (Leaves facts registers top s go) (sym (same_Some _ m e)) f)
+        value_or_failed P (read_home top.homes registers top.slots a) out _ failed (λ v ev.
+        value_or_failed P (read_home top.homes registers top.slots b) out _ failed (λ w ew.
+        value_or_failed P (op_result op v w) out _ failed (λ u eu.
+        let it = operator_asked (slice_get top.homes) facts asked op d a b m e in
+        let home = saved_register (slice_get top.homes d) it.1 in
+        let q = home.0 in
+        let x = operand_is facts h lz ok k a v ev in
+        let y = operand_is facts h lz ok k b w ew in
+        let z = decides_for h u x y asked op m.form it.2 eu in
+        subst (λ o. P (with_value o out (λ h. write_at h registers top.slots u (λ r s. go r s g)))) (sym home.1)
+        (subst (Leaves facts registers top s go) (sym it.3) f q u z.to z.some z.runs (fewer_stand z.stands (λ r c e. grind (arith, nat_tests)))
+        (defers q (λ c e. (home.2, e, rw (same_Some c u (sym e)) (result-word op v w u x.below y.below eu))) lz)
+        (is_waiting registers top.slots (comparison_at (slice_get top.homes) facts op d a b m.form) q u home.1 z.tells z.result)))))
     compares _ facts asked m registers top s go e ok k lz h f = absurd (none-some m e)

@@ -2,7 +2,8 @@
 use Rattle.std.proofs.Common.{◌≡◌, ◌≢◌, ℕ, zero, suc, ◌+◌, ◌*◌, ◌%◌, ◌^◌, ◌<◌, ◌≤◌, ◌⊎◌, inl, inr, Bool, true, false, cond, ◌&&◌, ◌==◌, List, []}
 use Rattle.std.proofs.Common.{◌∷◌, Option, Some, None, refl, sym, ap, ap₂, ◌∙◌, arith, ne_eqb}
 use Rattle.std.specs.Prelude.{slice_get, slice_set}
-use Rattle.std.proofs.lemmas.Bool.{cases_eq, and_right}
+use Rattle.std.proofs.lemmas.Bool.{cases_eq}
+use Rattle.std.proofs.lemmas.Bool.Decides.{nat_tests}
 use Rattle.std.proofs.lemmas.Option.{same_Some, none-some}
 use Rattle.words.specs.declared.width.Width.{Width}
 use Rattle.words.specs.declared.width.Width.TheVariants.{Word, Byte}
@@ -16,46 +17,32 @@ use Rattle.rtl.specs.declared.block.RGlobal.{RGlobal}
 use Rattle.rtl.specs.Meaning.{kept_in}
 use Rattle.mips_emit.specs.Elements.{width_of, width_in, width_bytes, place_in, place_behind, address_of_place}
 use Rattle.mips_emit.proofs.View.{word_at, shown_at, set_at, shown_here, shown_other, word_other, set_at_words}
-use Rattle.mips_emit.proofs.Stands.{Stored, stack_same, Stands, element_aligned, open_data}
+use Rattle.mips_emit.proofs.Stands.{Stored, stack_same, width_some, Stands, element_aligned, open_data}
 
 -- what a store keeps
 pub kept_is : (gs : List RGlobal) (a v w : ℕ) → kept_in gs a v ≡ Some w → w ≡ kept (width_of gs a) v
-kept_is gs a v w e = go (slice_get gs a) e
-  where
-    go : (o : Option RGlobal) → chain o (λ global. Some (kept global.width v)) ≡ Some w → w ≡ kept (width_in o) v
-    go None e = absurd (none-some w e)
-    go (Some global) e = sym (same_Some (kept global.width v) w e)
+kept_is gs a v w e =
+    let there = chain-some (slice_get gs a) (λ (global : RGlobal). Some (kept global.width v)) w e in
+    rw there.1 (sym (same_Some (kept (there.0).width v) w there.2))
 
 -- a word behind a byte that is stored
 word_past_byte : (mapped : ℕ → Bool) (m : ℕ → ℕ) (a v b : ℕ) → a < b → load_word mapped (store_byte mapped m a v) b ≡ load_word mapped m b
 unfolding load_word store_byte
-word_past_byte mapped m a v b lt =
-    let first = other b (omega (arith, lt)) in
-    let second = other (b + 1) (omega (arith, lt)) in
-    let third = other (b + 2) (omega (arith, lt)) in
-    let fourth = other (b + 3) (omega (arith, lt)) in
-    ap (λ x. cond (is_open Word mapped b) x 0)
-    (ap₂ (λ x y. x + y) (ap₂ (λ x y. x + y) (ap₂ (λ x y. x * 2 ^ 24 + y * 2 ^ 16) first second) (ap (λ x. x * 2 ^ 8) third)) fourth)
-  where
-    other : (c : ℕ) → a < c → cond (is_open Byte mapped a && (c == a)) (v % 2 ^ 8) (m c) ≡ m c
-    other c lt =
-        let ne : c ≢ a = λ e. absurd (omega (arith, lt, e)) in
-        ap (λ x. cond (is_open Byte mapped a && x) (v % 2 ^ 8) (m c)) (ne_eqb c a ne) ∙ ap (λ x. cond x (v % 2 ^ 8) (m c)) (and_right (is_open Byte mapped a) false refl)
+word_past_byte mapped m a v b lt = grind (arith, nat_tests)
 
 -- the stack keeps its words when an element is stored
 stack_kept : (w : Width) (s : State) (p v total b : ℕ) → p + width_bytes w ≤ total → total ≤ UNIT_BYTES → stack_base ≤ b
     → word_at (set_at w s (address_of_place p) v) b ≡ word_at s b
-stack_kept Word s p v total b inside few le = (let ne : b ≢ data_base + p = λ e. absurd (omega (arith, inside, few, le, e)) in
-    word_other s (data_base + p) v b ne)
-stack_kept Byte s p v total b inside few le = word_past_byte s.mapped s.memory (data_base + p) v b (omega (arith, inside, few, le))
+stack_kept Word s p v total b inside few le = word_other s (data_base + p) v b (omega arith)
+stack_kept Byte s p v total b inside few le = word_past_byte s.mapped s.memory (data_base + p) v b (omega arith)
 
 -- elements one behind the other share no byte
 parts_apart : (w u : Width) (p q total : ℕ) → p + width_bytes w ≤ total → q + width_bytes u ≤ total → total ≤ UNIT_BYTES
     → (p + width_bytes w ≤ q) ⊎ (q + width_bytes u ≤ p) → AreApart w (address_of_place p) u (address_of_place q)
-parts_apart Word Word p q total hp hq few le = λ e. absurd (omega (arith, le, e))
-parts_apart Byte Byte p q total hp hq few le = λ e. absurd (omega (arith, le, e))
-parts_apart Word Byte p q total hp hq few le = omega (arith, le, hp, hq, few)
-parts_apart Byte Word p q total hp hq few le = omega (arith, le, hp, hq, few)
+parts_apart Word Word p q total hp hq few le = omega arith
+parts_apart Byte Word p q total hp hq few le = omega arith
+parts_apart Byte Byte p q total hp hq few le = omega arith
+parts_apart Word Byte p q total hp hq few le = omega arith
 
 set_there : {A : Type 0} (l : List A) (b : ℕ) (x y : A) → slice_get l b ≡ Some y → slice_get (slice_set l b x) b ≡ Some x
 set_there [] b x y e = absurd (none-some y e)
@@ -97,11 +84,7 @@ module _ {most total : ℕ} {gs : List RGlobal} {starts : ℕ → ℕ} {register
   pub data_open : (a i v : ℕ) → element_at g a i ≡ Some v → Stands most total gs starts registers g fs s
       → is_open (width_of gs a) s.mapped (address_of_place (place_in gs starts a i)) ≡ true
   data_open a i v there h = rw h.mapped (open_data (width_of gs a) total (place_in gs starts a i) (element_aligned (width_of gs a) (starts a) i (h.even a))
-      (below (width_of gs a) (place_in gs starts a i) (h.inside a i v there)))
-    where
-      below : (w : Width) (p : ℕ) → p + width_bytes w ≤ total → p < total
-      below Word p le = omega (arith, le)
-      below Byte p le = omega (arith, le)
+      (omega (arith, width_some (width_of gs a), h.inside a i v there)))
 
   -- an element is written in memory
   pub data_written : (a i v : ℕ) (g' : Arrays) → v < 2 ^ 32

@@ -26,7 +26,7 @@ use Rattle.mips_emit.proofs.Runs.{RunsTo, runs_none, runs_then}
 use Rattle.mips_emit.proofs.View.{word_at, shown_at, set_word, shown_other, word_here, word_other, word_below, set_at_words, IsTarget, inner_is, read_register}
 use Rattle.mips_emit.proofs.View.{moves, loads_word, stores_word, Sets, set_sets, li_sets}
 use Rattle.mips_emit.proofs.Stands.{Stored, size_of, with_slots, stack_same, stack_top, LeafHolds, Linked, linked_kept, Stands, open_stack}
-use Rattle.mips_emit.proofs.Operands.{IsKnown, nothing_known, hide, AreDeferred, none_deferred, deferred_written, one_deferred, known_register, known_slot}
+use Rattle.mips_emit.proofs.Operands.{IsKnown, nothing_known, hide, AreDeferred, none_deferred, defers, known_register, known_slot}
 use Rattle.mips_emit.proofs.Operands.{IsFresh, none_fresh, stack_apart, Denotes, IsAway, longer, longer_behind, bring_some, Keeps, Holds, Ends, runs_nop}
 
 -- a slot has one copy, if any
@@ -37,6 +37,12 @@ copy_once ok x y c d = let same : x ≡ y = ok.apart x y _ _ c d refl in cc
 -- and none where a pseudo-register has the slot alone
 has_no_copy : {hs : List Home} {count : ℕ} → AreFrameHomes hs count → (x y : ℕ) {r k : ℕ} → slice_get hs x ≡ Some (Slot k) → slice_get hs y ≡ Some (Copied r k) → ⊥
 has_no_copy ok x y c d = let same : x ≡ y = ok.apart x y _ _ c d refl in cc
+
+-- a step that goes wrong where there is no home, and else goes on with what holds of the home
+at_home : (P : Run → Type 0) (G : Option Home → Type 0) (o : Option Home) (out : List ℕ) (go : Home → Run) → P (Failed out)
+    → ((l : Home) → o ≡ Some l → G (Some l) → P (go l)) → G o → P (with_value o out go)
+at_home P G None out go failed f g = failed
+at_home P G (Some l) out go failed f g = f l refl g
 
 -- one register is written
 words_changed : {s : State} {regs : ℕ → ℕ} (r v : ℕ) → IsWords s → v < 2 ^ 32 → regs r ≡ v → ((q : ℕ) → q ≢ r → regs q ≡ s.regs q)
@@ -152,7 +158,7 @@ module _ {most total : ℕ} {gs : List RGlobal} {starts : ℕ → ℕ} where
     fetches t v Zero low high d = shown t 0 v (sym d)
     fetches t v (From (Reg r)) low high d = shown t r v d
     fetches t v (From (Copied r k)) low high d = shown t r v d
-    fetches t v x low high d = loaded low high (brings t v x (record { low = low; high = omega (arith, high) }) d)
+    fetches t v x low high d = loaded low high (brings t v x (omega arith) d)
 
     -- slots are known that memory and the copies show
     slots_stand : {slots : Places} {m : ℕ → ℕ} → IsWords (record s { memory = m })
@@ -195,15 +201,12 @@ module _ {most total : ℕ} {gs : List RGlobal} {starts : ℕ → ℕ} where
         let a = s.regs 29 + 4 * k in
         let up = stack_top most (word_at s) (s.regs 29 + size_of top) fs h.stack.1 in
         slots_stand (set_at_words widths.Word s a v h.words)
-        (λ j w jl. cond_both (nat_eq j k) (Some v) (top.slots j) (λ o. o ≡ Some w → word_at (set_word s a v) (s.regs 29 + 4 * j) ≡ w)
-        (λ e at. rw (eqb-true j k e) (word_here s a v (slot_open k lt).1 below ∙ same_Some v w at))
-        (λ e at. (let apart = eqb-false j k e in word_other s a v (s.regs 29 + 4 * j) (omega (arith, apart))) ∙ (h.stack.0).slots j w jl at))
+        (λ j w jl at. grind (arith, nat_tests, word_here s a v (slot_open k lt).1 below, word_other s a v (s.regs 29 + 4 * j), (h.stack.0).slots j w jl))
         (λ b le. word_other s a v b (omega (arith, le, lt)))
         (λ b i w at. shown_other widths.Word (width_of gs b) s a v (address_of_place (place_in gs starts b i))
         (stack_apart (width_of gs b) a (place_in gs starts b i) total (omega (arith, h.room)) (omega (arith, up, lt)) (h.inside b i w at) h.few)
         ∙ h.elements b i w at)
-        (λ l x r j w copy. cond_both (nat_eq j k) (Some v) (top.slots j) (λ o. o ≡ Some w → s.regs r ≡ w)
-        (λ e at. shown x r (rw (eqb-true j k e) at copy) ∙ same_Some v w at) (λ _. l.copied x r j w copy))
+        (λ l x r j w copy at. grind (arith, nat_tests, shown x r, l.copied x r j w copy))
 
     -- only a leaf has copies
     copy_holds : (x r k : ℕ) → slice_get top.homes x ≡ Some (Copied r k) → LeafHolds top registers s.regs
@@ -222,15 +225,14 @@ module _ {most total : ℕ} {gs : List RGlobal} {starts : ℕ → ℕ} where
         (λ leaf. record {
           link = others 31 (omega (arith, range.1)) ∙ l.link;
           range = l.range;
-          copied = λ y q j w c. cond_both (nat_eq j k) None (top.slots j) (λ o. o ≡ Some w → regs q ≡ w) (λ _ at. absurd (none-some w at))
-              (λ e at. others q (λ same. eqb-false j k e (one y j (rw same at c))) ∙ l.copied y q j w c at);
+          copied = λ y q j w c at. grind (arith, nat_tests, others q, l.copied y q j w c, one y j);
           idle = l.idle;
         })
         (others 29 (omega (arith, range.1))) (others 28 (omega (arith, range.1)))
-        (λ q w ql qh at. others q (λ e. none-some w (sym (l.idle x r k copy) ∙ (rw e at at))) ∙ h.held q w ql qh at)
+        (λ q w ql qh at. grind (arith, nat_tests, others q, l.idle x r k copy, h.held q w ql qh))
       where
         one : (y j : ℕ) → slice_get top.homes y ≡ Some (Copied r j) → j ≡ k
-        one y j c = let same : y ≡ x = (ok.copied).once y x r j k c copy in cc
+        one y j c = let same = (ok.copied).once y x r j k c copy in cc
 
     -- and then the slot
     copy_stored : (RunsTo (store_word_at r (4 * k) ∷ []) (record s { regs = regs }) (set_word (record s { regs = regs }) (regs 29 + 4 * k) v))
@@ -351,7 +353,7 @@ module _ {most total : ℕ} {gs : List RGlobal} {starts : ℕ → ℕ} where
                 })
                 (others 29 (omega (arith, range.1))) (others 28 (omega (arith, range.1)))
                 (λ q w low high e. grind (arith, nat_tests, is, others q, h.held q w low high));
-            still_deferred = deferred_written r (Some v) are_deferred;
+            still_deferred = defers r (λ w e. absurd (none-some w e)) are_deferred;
             is_known = known_register x ok at said k;
             keeps = record { base = others 30 (omega (arith, range.1)); others = λ q _ ne. others q ne };
           }
@@ -395,12 +397,10 @@ module _ {most total : ℕ} {gs : List RGlobal} {starts : ℕ → ℕ} where
 
         puts_at : (l : Home) → slice_get top.homes x ≡ Some l → Go (Some l) → P (write_at l registers top.slots v go)
         puts_at (Reg r) at f =
-            let range = ok.by x (Reg r) at in
-            let c = brings h r v y (record { low = omega (arith, range.0); high = omega (arith, range.1) }) d in
+            let c = brings h r v y (omega (arith, ok.by x (Reg r) at)) d in
             f (places_with registers r (Some v)) top.slots _ (bring_some r y) (in_register at c.runs c.here c.others)
         puts_at (Copied r j) at f =
-            let range = (ok.copied).range x r j at in
-            let c = brings h r v y (record { low = omega (arith, range.0); high = omega (arith, range.1) }) d in
+            let c = brings h r v y (omega (arith, (ok.copied).range x r j at)) d in
             f registers (places_with top.slots j (Some v)) _ (longer (bring r y) _ (bring_some r y)) (in_copy at c.runs c.here c.others)
         puts_at (Slot j) at f =
             let inner = inner_is (Some (Slot j)) in
@@ -409,77 +409,71 @@ module _ {most total : ℕ} {gs : List RGlobal} {starts : ℕ → ℕ} where
             (in_slot_alone (operand_register (inner_of (Some (Slot j))) y) at inner.high c.runs c.here c.others c.stands)
 
         pub puts : (out : List ℕ) → P (Failed out) → Go (slice_get top.homes x) → P (write_home (cells top.homes registers top.slots) x v out go)
-        puts out failed f = by (slice_get top.homes x) refl f
-          where
-            by : (l : Option Home) → slice_get top.homes x ≡ l → Go l → P (with_value l out (λ h. write_at h registers top.slots v go))
-            by None at f = failed
-            by (Some l) at f = puts_at l at f
+        puts out failed f = at_home P Go (slice_get top.homes x) out (λ h. write_at h registers top.slots v go) failed puts_at f
 
-    -- a result, computed into the register for its home
-    pub finishes : (P : Run → Type 0) (go : Places → Places → Run) (x v : ℕ) {o : Option ℕ} (out : List ℕ) {known : Places}
-        {is : List Plain} {s0 : State} → Ends is s0 s (into (slice_get top.homes x)) v → 1 ≤ length is → ((w : ℕ) → o ≡ Some w → w ≡ v)
-        → AreFrameHomes top.homes top.count → IsKnown known top.homes registers top.slots → P (Failed out)
-        → ((registers' slots' : Places) (to : State) → 1 ≤ length (is ++ finish (slice_get top.homes x)) → Written (is ++ finish (slice_get top.homes x)) s0 (places_with known x o) (slice_get top.homes x)
-        (deferred_none (slice_get top.homes x) deferred) registers' slots' to
-        → Holds (slice_get top.homes x) to.regs v → IsFresh (in_slot (slice_get top.homes x) x) top.homes registers' slots' to → P (go registers' slots'))
-        → P (write_home (cells top.homes registers top.slots) x v out go)
-    finishes P go x v {o} out {known} {is} {s0} e some said ok k failed f = by (slice_get top.homes x) refl e f
-      where
-        by : (l : Option Home) → slice_get top.homes x ≡ l → Ends is s0 s (into l) v
-            → ((registers' slots' : Places) (to : State) → 1 ≤ length (is ++ finish l) → Written (is ++ finish l) s0 (places_with known x o) l (deferred_none l deferred) registers' slots' to
+      -- a result, computed into the register for its home
+      module _ (P : Run → Type 0) (go : Places → Places → Run) (is : List Plain) (s0 : State) (some : 1 ≤ length is) where
+        abbrev Finished : Option Home → Type 0
+        Finished l = Ends is s0 s (into l) v × ((registers' slots' : Places) (to : State) → 1 ≤ length (is ++ finish l)
+            → Written (is ++ finish l) s0 (places_with known x o) l (deferred_none l deferred) registers' slots' to
             → Holds l to.regs v → IsFresh (in_slot l x) top.homes registers' slots' to → P (go registers' slots'))
-            → P (with_value l out (λ h. write_at h registers top.slots v go))
-        by None at e f = failed
-        by (Some (Reg r)) at e f =
-            f (places_with registers r (Some v)) top.slots (record s { regs = e.regs }) (longer is _ some)
-            (in_register x v e.below said ok k at (runs_then e.runs (runs_none (record s { regs = e.regs }))) e.here e.others) e.here
-            (none_fresh top.homes (places_with registers r (Some v)) top.slots (record s { regs = e.regs }))
-        by (Some (Copied r j)) at e f =
-            f registers (places_with top.slots j (Some v)) _ (longer is _ some) (in_copy x v e.below said ok k at e.runs e.here e.others) tt
-            (none_fresh top.homes registers (places_with top.slots j (Some v)) _)
-        by (Some (Slot j)) at e f =
+
+        finishes_at : (l : Home) → slice_get top.homes x ≡ Some l → Finished (Some l) → P (write_at l registers top.slots v go)
+        finishes_at (Reg r) at f =
+            let e = f.0 in
+            f.1 (places_with registers r (Some v)) top.slots (record s { regs = e.regs }) (longer is _ some)
+            (in_register at (runs_then e.runs (runs_none (record s { regs = e.regs }))) e.here e.others) e.here (none_fresh _ _ _ _)
+        finishes_at (Copied r j) at f =
+            let e = f.0 in
+            f.1 registers (places_with top.slots j (Some v)) _ (longer is _ some) (in_copy at e.runs e.here e.others) tt (none_fresh _ _ _ _)
+        finishes_at (Slot j) at f =
             let inner = inner_is (Some (Slot j)) in
-            f registers (places_with top.slots j (Some v)) _ (longer is _ some) (in_slot_alone x v e.below said ok k (inner_of (Some (Slot j))) at inner.high e.runs
+            let e = f.0 in
+            f.1 registers (places_with top.slots j (Some v)) _ (longer is _ some) (in_slot_alone (inner_of (Some (Slot j))) at inner.high e.runs
             (read_register e.regs (inner_of (Some (Slot j))) inner.low ∙ e.here) e.others (ends_stands h inner.high e)) tt
-            (record { by = λ c w is there. fresh c w (same_Some x c is) there })
+            (record { by = λ c w is there. fresh e c w (same_Some x c is) there })
           where
-            fresh : (c w : ℕ) → x ≡ c → read_home top.homes registers (places_with top.slots j (Some v)) c ≡ Some w → e.regs (inner_of (slice_get top.homes c)) ≡ w
-            fresh c w same there = rw (← same, at) (e.here ∙ same_Some v w (rw (← same, at, eq-eqb j j refl) at there))
+            fresh : (e : Ends is s0 s (inner_of (Some (Slot j))) v) (c w : ℕ) → x ≡ c → read_home top.homes registers (places_with top.slots j (Some v)) c ≡ Some w
+                → e.regs (inner_of (slice_get top.homes c)) ≡ w
+            fresh e c w same there = rw (← same, at) (e.here ∙ same_Some v w (rw (← same, at, eq-eqb j j refl) at there))
+
+        pub finishes : (out : List ℕ) → P (Failed out) → Finished (slice_get top.homes x) → P (write_home (cells top.homes registers top.slots) x v out go)
+        finishes out failed f = at_home P Finished (slice_get top.homes x) out (λ h. write_at h registers top.slots v go) failed finishes_at f
 
     -- a constant, which needn't be put into a caller-saved register yet
-    pub tells : (P : Run → Type 0) (go : Places → Places → Run) (x v : ℕ) (out : List ℕ) {known : Places}
-        → v < 2 ^ 32 → AreFrameHomes top.homes top.count → IsKnown known top.homes registers top.slots → P (Failed out)
-        → ((registers' slots' : Places) (to : State) → 1 ≤ length (const_code (slice_get top.homes x) v) → Written (const_code (slice_get top.homes x) v) s (places_with known x (Some v)) (slice_get top.homes x)
-        (deferred_const (slice_get top.homes x) v deferred) registers' slots' to → P (go registers' slots'))
-        → P (write_home (cells top.homes registers top.slots) x v out go)
-    tells P go x v out {known} below ok k failed f = by (slice_get top.homes x) refl f
-      where
-        Put : List Plain → Option Home → Places → Type 0
-        Put is l deferred' = (registers' slots' : Places) (to : State) → 1 ≤ length is → Written is s (places_with known x (Some v)) l deferred' registers' slots' to → P (go registers' slots')
+    module _ (x v : ℕ) {known : Places} (below : v < 2 ^ 32) (ok : AreFrameHomes top.homes top.count) (k : IsKnown known top.homes registers top.slots)
+        (P : Run → Type 0) (go : Places → Places → Run) where
+      abbrev Told : List Plain → Option Home → Places → Type 0
+      Told is l deferred' = (registers' slots' : Places) (to : State) → 1 ≤ length is → Written is s (places_with known x (Some v)) l deferred' registers' slots' to
+          → P (go registers' slots')
 
-        -- at once
-        puts_now : (l : Home) → slice_get top.homes x ≡ Some l → Put (put_at (Some l) (word_source v)) (Some l) (deferred_none (Some l) deferred)
-            → P (write_at l registers top.slots v go)
-        puts_now l at f = puts_at x v below (λ w e. sym (same_Some v w e)) ok k P go (word_source v) (word_means v v refl below).0 l at f
+      -- at once
+      puts_now : (l : Home) → slice_get top.homes x ≡ Some l → Told (put_at (Some l) (word_source v)) (Some l) (deferred_none (Some l) deferred)
+          → P (write_at l registers top.slots v go)
+      puts_now l at f = puts_at x v below (λ w e. sym (same_Some v w e)) ok k P go (word_source v) (word_means v v refl below).0 l at f
 
-        reg : (r : ℕ) → slice_get top.homes x ≡ Some (Reg r) → (b : Bool) → is_callee_saved r ≡ b
-            → Put (if b then bring r (word_source v) else nop ∷ []) (Some (Reg r)) (places_with deferred r (if b then None else Some v))
-            → P (go (places_with registers r (Some v)) top.slots)
-        reg r at true lasts f = puts_now (Reg r) at f
-        reg r at false caller_saved f = f (places_with registers r (Some v)) top.slots s (omega arith) (record {
-          runs = runs_nop s;
-          stands = fewer_stand h (λ q w e. grind (arith, nat_tests));
-          still_deferred = one_deferred r v caller_saved below are_deferred;
-          is_known = known_register x ok at (λ w e. sym (same_Some v w e)) k;
-          keeps = record { base = refl; others = λ q low ne. refl };
-        })
+      in_turn : (r : ℕ) → slice_get top.homes x ≡ Some (Reg r) → (b : Bool) → is_callee_saved r ≡ b
+          → Told (if b then bring r (word_source v) else nop ∷ []) (Some (Reg r)) (places_with deferred r (if b then None else Some v))
+          → P (go (places_with registers r (Some v)) top.slots)
+      in_turn r at true lasts f = puts_now (Reg r) at f
+      in_turn r at false caller_saved f = f (places_with registers r (Some v)) top.slots s (omega arith) (record {
+        runs = runs_nop s;
+        stands = fewer_stand h (λ q w e. grind (arith, nat_tests));
+        still_deferred = defers r (λ w e. (caller_saved, e, rw (same_Some w v (sym e)) below)) are_deferred;
+        is_known = known_register x ok at (λ w e. sym (same_Some v w e)) k;
+        keeps = record { base = refl; others = λ q low ne. refl };
+      })
 
-        by : (l : Option Home) → slice_get top.homes x ≡ l → Put (const_code l v) l (deferred_const l v deferred)
-            → P (with_value l out (λ h. write_at h registers top.slots v go))
-        by None at f = failed
-        by (Some (Reg r)) at f = reg r at (is_callee_saved r) refl f
-        by (Some (Slot j)) at f = puts_now (Slot j) at f
-        by (Some (Copied r j)) at f = puts_now (Copied r j) at f
+      tells_at : (l : Home) → slice_get top.homes x ≡ Some l → Told (const_code (Some l) v) (Some l) (deferred_const (Some l) v deferred)
+          → P (write_at l registers top.slots v go)
+      tells_at (Reg r) at f = in_turn r at (is_callee_saved r) refl f
+      tells_at (Slot j) at f = puts_now (Slot j) at f
+      tells_at (Copied r j) at f = puts_now (Copied r j) at f
+
+      pub tells : (out : List ℕ) → P (Failed out) → Told (const_code (slice_get top.homes x) v) (slice_get top.homes x) (deferred_const (slice_get top.homes x) v deferred)
+          → P (write_home (cells top.homes registers top.slots) x v out go)
+      tells out failed f = at_home P (λ l. Told (const_code l v) l (deferred_const l v deferred)) (slice_get top.homes x) out
+          (λ h. write_at h registers top.slots v go) failed tells_at f
 
   -- a register into a home, where no word is to come
   pub arrives : {registers : Places} {g : Arrays} {top : Stored} {fs : List Stored} {s : State} → Stands most total gs starts registers g (top ∷ fs) s
@@ -488,8 +482,13 @@ module _ {most total : ℕ} {gs : List RGlobal} {starts : ℕ → ℕ} where
       → ((registers' slots' : Places) (s' : State) → RunsTo (arrive (slice_get top.homes x) t) s s'
       → Stands most total gs starts registers' g (with_slots top slots' ∷ fs) s' → Keeps (slice_get top.homes x) s.regs s'.regs → P (go registers' slots'))
       → P (write_home (cells top.homes registers top.slots) x v out go)
-  arrives {registers} {g} {top} {fs} {s} h P go x v t out low is below ok failed f = by (slice_get top.homes x) refl f
+  arrives {registers} {g} {top} {fs} {s} h P go x v t out low is below ok failed f =
+      at_home P Arrived (slice_get top.homes x) out (λ h. write_at h registers top.slots v go) failed by f
     where
+      Arrived : Option Home → Type 0
+      Arrived l = (registers' slots' : Places) (s' : State) → RunsTo (arrive l t) s s' → Stands most total gs starts registers' g (with_slots top slots' ∷ fs) s'
+          → Keeps l s.regs s'.regs → P (go registers' slots')
+
       shows : read 0 s.regs t ≡ v
       shows = read_register s.regs t (omega (arith, low)) ∙ is
 
@@ -499,21 +498,15 @@ module _ {most total : ℕ} {gs : List RGlobal} {starts : ℕ → ℕ} where
       none : (w : ℕ) → None ≡ Some w → w ≡ v
       none w e = absurd (none-some w e)
 
-      by : (l : Option Home) → slice_get top.homes x ≡ l
-          → ((registers' slots' : Places) (s' : State) → RunsTo (arrive l t) s s' → Stands most total gs starts registers' g (with_slots top slots' ∷ fs) s'
-          → Keeps l s.regs s'.regs → P (go registers' slots'))
-          → P (with_value l out (λ h. write_at h registers top.slots v go))
-      by None at f = failed
-      by (Some (Reg r)) at f =
-          let range = ok.by x (Reg r) at in
-          let c = carries h r v (From (Reg t)) (record { low = omega (arith, range.0); high = omega (arith, range.1) }) shows in
+      by : (l : Home) → slice_get top.homes x ≡ Some l → Arrived (Some l) → P (write_at l registers top.slots v go)
+      by (Reg r) at f =
+          let c = carries h r v (From (Reg t)) (omega (arith, ok.by x (Reg r) at)) shows in
           let w = in_register h (none_deferred registers) x v below none ok k at c.runs c.here c.others in
           f (places_with registers r (Some v)) top.slots (record s { regs = c.regs }) w.runs (fewer_stand w.stands (λ q u e. grind (arith, nat_tests))) w.keeps
-      by (Some (Copied r j)) at f =
-          let range = (ok.copied).range x r j at in
-          let c = carries h r v (From (Reg t)) (record { low = omega (arith, range.0); high = omega (arith, range.1) }) shows in
+      by (Copied r j) at f =
+          let c = carries h r v (From (Reg t)) (omega (arith, (ok.copied).range x r j at)) shows in
           let w = in_copy h (none_deferred registers) x v below none ok k at c.runs c.here c.others in
           f registers (places_with top.slots j (Some v)) _ w.runs w.stands w.keeps
-      by (Some (Slot j)) at f =
+      by (Slot j) at f =
           let w = in_slot_alone h (none_deferred registers) x v below none ok k {t = 1} t at (omega arith) (runs_none s) shows (λ q ne. refl) h in
           f registers (places_with top.slots j (Some v)) _ w.runs w.stands w.keeps

@@ -2,7 +2,7 @@
 use Rattle.std.proofs.Common.{◌≡◌, ◌≢◌, ℕ, ℤ, zero, suc, ◌+◌, ◌^◌, ◌*◌, ◌<◌, ◌≤◌, Bool, true, false, true≢false, List, [], ◌∷◌, ◌++◌, take, map}
 use Rattle.std.proofs.Common.{length, Option, Some, None, refl, sym, ap, ◌∙◌, subst, arith, ap₂, nat_eq, ltb-true, eqb-true}
 use Rattle.std.specs.Prelude.{◌-◌, if◌then◌else◌, slice_get, nat_lt}
-use Rattle.std.proofs.lemmas.Option.{same_Some, none-some}
+use Rattle.std.proofs.lemmas.Option.{same_Some, none-some, cond_some}
 use Rattle.words.specs.declared.operator.Operator.TheVariants as operators
 use Rattle.words.specs.declared.width.Width.{Width}
 use Rattle.words.specs.declared.width.Width.TheVariants as widths
@@ -42,17 +42,17 @@ use Rattle.mips_emit.specs.Offsets.{addend, offset_from, sum_offset, or_offset, 
 use Rattle.rtl.specs.declared.operator.Op.TheVariants.{Add, Sub}
 use Rattle.std.proofs.lemmas.Bool.{eqb-false, and_parts, cond_both}
 use Rattle.std.proofs.lemmas.Bool.Decides.{nat_tests}
-use Rattle.mips_emit.specs.Elements.{width_of, width_bytes, element_place, place_in, address_of_place, near, base_code}
+use Rattle.mips_emit.specs.Elements.{width_of, width_bytes, direct, element_place, place_in, address_of_place, near, base_code}
 use Rattle.mips_emit.specs.Elements.{base_offset, base_word, shares_base, base_index, shifted_offset, reach_by, element_base, element_offset}
 use Rattle.mips_emit.specs.Code.{fetch, operand_register, into, operation, immediate_of, is_symmetric, turned_immediate_of, turned_less_of, code_by_less, code_by_left}
 use Rattle.mips_emit.specs.Code.{known_operand, multiple_of, multiple_code, code_by_multiple, code_by_word}
 use Rattle.mips_emit.specs.Code.{code_by_right, op_code, holds_base, reach_with, reach_of, element_code, element_store, inst_code}
 use Rattle.mips_emit.proofs.Runs.{RunsTo, if_some, runs_none, runs_then}
-use Rattle.mips_emit.proofs.View.{shown_at, word_of_offset, shown_below, set, set_at, Sets, set_sets, read_register, put_here, put_other, IsTarget, t2, IsInner, inner_is, inner_target, loads_at, stores_at, near_word, read_other, Based, based, from_base, from_shifted}
-use Rattle.mips_emit.proofs.Stands.{Stored, with_slots, Stands}
-use Rattle.mips_emit.proofs.Operands.{IsFresh, IsLast, none_last, known_with, known_without, IsKnown, Denotes, IsAway, operand_register_kept, longer_behind}
-use Rattle.mips_emit.proofs.Operands.{Ends, hide, AreDeferred, Keeps, Holds, IsKept, IsOffset, AreBases, IsIndex, kept_here, offset_here, of_index, kept_same, offset_same}
-use Rattle.mips_emit.proofs.Operands.{kept_written, offset_written, bases_written, index_is, index_same}
+use Rattle.mips_emit.proofs.View.{shown_at, word_of_offset, shown_below, set, set_at, Sets, set_sets, read_register, put_here, put_other, IsTarget, t2, IsInner, inner_is, loads_at, stores_at, near_word, read_other, Based, based, from_base, from_shifted}
+use Rattle.mips_emit.proofs.Stands.{Stored, with_slots, Stands, width_some}
+use Rattle.mips_emit.proofs.Operands.{IsFresh, IsLast, none_last, IsKnown, Denotes, IsAway, operand_register_kept, longer_behind}
+use Rattle.mips_emit.proofs.Operands.{Ends, hide, AreDeferred, Keeps, Holds, IsKept, IsOffset, AreBases, IsIndex, of_index, sum_same, kept_same, offset_same}
+use Rattle.mips_emit.proofs.Operands.{offset_written, bases_written, index_is}
 use Rattle.mips_emit.proofs.Homes.{operand_below, operand_means, fetches, sets_kept, run_kept, finishes, puts, tells, stands_with}
 use Rattle.mips_emit.proofs.Globals.{kept_is, data_open, data_written, stored_at}
 use Rattle.mips_emit.proofs.Operations.{Gives, alu_gives, operation_gives, immediate_gives, less_gives, symmetric}
@@ -91,10 +91,9 @@ into_target : (hs : List Home) (count x : ℕ) → AreFrameHomes hs count → Is
 into_target hs count x ok = go (slice_get hs x) refl
   where
     go : (o : Option Home) → slice_get hs x ≡ o → IsTarget (into o)
-    go (Some (Reg r)) e = (let range = ok.by x (Reg r) e in record { low = omega (arith, range.0); high = omega (arith, range.1) })
-    go (Some (Copied r k)) e = (let range = (ok.copied).range x r k e in record { low = omega (arith, range.0); high = omega (arith, range.1) })
-    go None e = inner_target None
-    go (Some (Slot k)) e = inner_target (Some (Slot k))
+    go (Some (Reg r)) e = omega (arith, ok.by x (Reg r) e)
+    go (Some (Copied r k)) e = omega (arith, (ok.copied).range x r k e)
+    go _ e = omega arith
 
 -- an operand away from the lower registers isn't shown by register 2
 operand_register_apart : (x : Source) → IsAway x → operand_register 1 x ≢ 2
@@ -103,31 +102,17 @@ operand_register_apart (From (Copied r k)) away = λ e. absurd (omega (arith, e,
 operand_register_apart _ away = λ e. absurd (omega (arith, e))
 
 -- what an operator with a known word adds
-difference : (v w : ℕ) → wrap (v + (2 ^ 32 - w)) ≡ wrap (v + wrap (2 ^ 32 - w))
-difference v w = omega arith
-
 sums_to : (op : Op) (v w u c : ℕ) → op_result op v w ≡ Some u → addend op w ≡ Some c → u ≡ wrap (v + c)
-sums_to Add v w u c e is = sym (same_Some (wrap (v + w)) u e) ∙ ap (λ c. wrap (v + c)) (same_Some w c is)
-sums_to Sub v w u c e is = sym (same_Some (wrap (v + (2 ^ 32 - w))) u e) ∙ difference v w ∙ ap (λ c. wrap (v + c)) (same_Some (wrap (2 ^ 32 - w)) c is)
+sums_to Add v w u c e is = cc
+sums_to Sub v w u c e is = let difference : wrap (v + (2 ^ 32 - w)) ≡ wrap (v + wrap (2 ^ 32 - w)) = omega arith in cc
 sums_to _ v w u c e is = absurd (none-some c is)
 
--- a register that is a home
-abbrev IsRegister : Option Home → Type 0
-IsRegister (Some (Reg r)) = (4 ≤ r) × (r < 28)
-IsRegister _ = Unit {0}
-
-home_register : (hs : List Home) (count x : ℕ) → AreFrameHomes hs count → IsRegister (slice_get hs x)
-home_register hs count x ok = go (slice_get hs x) refl
-  where
-    go : (o : Option Home) → slice_get hs x ≡ o → IsRegister o
-    go (Some (Reg r)) e = ok.by x (Reg r) e
-    go _ e = tt
-
 -- what an operator leaves in a register, of which the right operand may be known
-module _ (op : Op) (v w u : ℕ) (f f' : ℕ → ℕ) (old : Option Offset) (e : op_result op v w ≡ Some u) (before : IsOffset old f) where
-  sum_known : (l : Option Home) (right : Option ℕ) (x : Source) → IsRegister l → IsAway x → ((r : ℕ) → x ≡ From (Reg r) → f r ≡ v)
+module _ (op : Op) (v w u count : ℕ) (s : State) (f f' : ℕ → ℕ) (old : Option Offset) (e : op_result op v w ≡ Some u) (before : IsOffset old f)
+    (same : (q : ℕ) → 4 ≤ q → f q ≡ s.regs q) where
+  sum_known : (l : Option Home) (right : Option ℕ) (x : Source) → ((t : ℕ) → l ≡ Some (Reg t) → (4 ≤ t) × (t < 28)) → IsAway x → Denotes count s x v
       → ((c : ℕ) → right ≡ Some c → c ≡ w) → Keeps l f f' → Holds l f' u → IsOffset (or_offset (sum_offset l op right x) (offset_past l old)) f'
-  sum_known (Some (Reg t)) (Some c) (From (Reg r)) ok away at said keeps is = by (addend op c) refl
+  sum_known (Some (Reg t)) (Some c) (From (Reg r)) ok away means said keeps is = by (addend op c) refl
     where
       others : IsOffset (offset_past (Some (Reg t)) old) f'
       others = offset_written keeps before
@@ -137,29 +122,21 @@ module _ (op : Op) (v w u : ℕ) (f f' : ℕ → ℕ) (old : Option Offset) (e :
       by (Some d) added = cond_both (nat_eq r t) None (Some (record { register = t; base = r; word = d })) (λ o. IsOffset (or_offset o (offset_past (Some (Reg t)) old)) f')
           (λ _. others) (λ n.
           let sum = sums_to op v w u d e (ap (addend op) (sym (said c refl)) ∙ added) in
-          let kept = keeps.others r away.0 (eqb-false r t n) ∙ at r refl in
-          offset_here (record { register = t; base = r; word = d }) f' ok.0 away.0 ok.1 away.1 (rw kept (is ∙ sum)))
-  sum_known _ _ _ ok away at said keeps is = offset_written keeps before
+          let kept = keeps.others r away.0 (eqb-false r t n) ∙ same r away.0 ∙ sym (read_register s.regs r (omega (arith, away.0))) ∙ means in
+          let range = ok t refl in
+          record { by = λ o e. rw (same_Some o _ (sym e)) (range.0, range.1, away.0, away.1, rw kept (is ∙ sum)) })
+  sum_known _ _ _ ok away d said keeps is = offset_written keeps before
 
 -- the last instruction leaves no more than a result for a slot
 only_fresh : {fresh : Option ℕ} {hs : List Home} {registers slots : Places} {s : State} → IsFresh fresh hs registers slots s
     → IsLast (record { fresh = fresh; comparison = None }) hs registers slots s
 only_fresh new = record { fresh = new; comparison = λ m v is. absurd (none-some m is); result = λ m v is. absurd (none-some m is) }
 
--- a register that is an operand
-held_operand : (count : ℕ) (s : State) (x : Source) (v : ℕ) → IsAway x → Denotes count s x v → (r : ℕ) → x ≡ From (Reg r) → s.regs r ≡ v
-held_operand count s x v away d r e =
-    let low = (subst IsAway e away).0 in sym (read_register s.regs r (omega (arith, low))) ∙ subst (λ x. Denotes count s x v) e d
-
 module _ {most total : ℕ} {gs : List RGlobal} {starts : ℕ → ℕ} where
   -- an element lies below the greatest place
   element_few : {registers : Places} {g : Arrays} {fs : List Stored} {s : State} (a i v : ℕ) → element_at g a i ≡ Some v
       → Stands most total gs starts registers g fs s → place_in gs starts a i < UNIT_BYTES
-  element_few a i v there h = by (width_of gs a) (place_in gs starts a i) (h.inside a i v there) h.few
-    where
-      by : (w : Width) (p : ℕ) → p + width_bytes w ≤ total → total ≤ UNIT_BYTES → p < UNIT_BYTES
-      by widths.Word p le few = omega arith
-      by widths.Byte p le few = omega arith
+  element_few a i v there h = omega (arith, width_some (width_of gs a), h.inside a i v there, h.few)
 
   module _ {registers : Places} {g : Arrays} {top : Stored} {fs : List Stored} {s : State} (h : Stands most total gs starts registers g (top ∷ fs) s) where
     -- instructions that compute a word in register d
@@ -185,35 +162,26 @@ module _ {most total : ℕ} {gs : List RGlobal} {starts : ℕ → ℕ} where
           some = some c.some;
         }
 
-    -- an operand means a word in each state that stands
-    abbrev pub Means : Source → ℕ → Type 0
-    Means x v = (s : State) → Stands most total gs starts registers g (top ∷ fs) s → Denotes top.count s x v
+    -- an operand, and what is known of it: a word, in each state that stands
+    pub record IsOperand (k : Option ℕ) (x : Source) (v : ℕ) : Type 0 where
+      pub away : IsAway x
+      pub means : (s : State) → Stands most total gs starts registers g (top ∷ fs) s → Denotes top.count s x v
+      pub said : (c : ℕ) → k ≡ Some c → c ≡ v
+      pub below : v < 2 ^ 32
 
     -- one operand, then instructions that give a word
-    one_operand : (t d v u : ℕ) (x : Source) (is : List Plain) → 0 < t → t < 4 → Means x v → u < 2 ^ 32
+    one_operand : {k : Option ℕ} {x : Source} {v : ℕ} (t d u : ℕ) (is : List Plain) → 0 < t → t < 4 → IsOperand k x v → u < 2 ^ 32
         → ((s : State) → read 0 s.regs (operand_register t x) ≡ v → Gives is s d u) → Computed (fetch t x ++ is) d u
-    one_operand t d v u x is low high mx lt gives =
-        let a = fetches h t v x low high (mx s h) in
+    one_operand {x} {v} t d u is low high x_is lt gives =
+        let a = fetches h t v x low high (x_is.means s h) in
         computed a.stands (λ q up. a.others q (omega (arith, high, up))) (λ m e. runs_then a.runs e) (longer_behind (fetch t x) _) lt
         (gives (record s { regs = a.regs }) a.here)
 
-    -- both operands, and then an operator
-    both : (op : Op) (t d v w u : ℕ) (x y : Source) → IsInner t → IsTarget d → IsAway x → Means x v → Means y w → v < 2 ^ 32 → w < 2 ^ 32 → op_result op v w ≡ Some u
-        → Computed (fetch t x ++ (fetch 2 y ++ operation op d (operand_register t x) (operand_register 2 y))) d u
-    both op t d v w u x y is_inner ok away mx my vb wb e =
-        let a = fetches h t v x is_inner.low is_inner.high (mx s h) in
-        let s1 : State = record s { regs = a.regs } in
-        let b = fetches a.stands 2 w y (omega arith) (omega arith) (my s1 a.stands) in
-        computed b.stands (λ q up. b.others q (omega (arith, up)) ∙ a.others q (omega (arith, is_inner.high, up)))
-        (λ m e. runs_then a.runs (runs_then b.runs e)) (λ some. longer_behind (fetch t x) _ (longer_behind (fetch 2 y) _ some)) (result-word op v w u vb wb e)
-        (operation_gives (record s1 { regs = b.regs }) d (operand_register t x) (operand_register 2 y) v w u ok
-        (operand_register_kept x t 2 a.regs b.regs away is_inner.apart (omega arith) b.others ∙ a.here) b.here op vb wb e)
-
     -- a multiple of an operand
-    times : (t d v u : ℕ) (x : Source) (m : ShiftedSum) → IsInner t → IsTarget d → IsAway x → Means x v → u < 2 ^ 32 → IsMultiple m v u
+    times : {k : Option ℕ} {x : Source} {v : ℕ} (t d u : ℕ) (m : ShiftedSum) → IsInner t → IsTarget d → IsOperand k x v → u < 2 ^ 32 → IsMultiple m v u
         → Computed (multiple_code t d m x) d u
-    times t d v u x m is_inner ok away mx lt is =
-        let a = fetches h t v x is_inner.low is_inner.high (mx s h) in
+    times {x} {v} t d u m is_inner ok x_is lt is =
+        let a = fetches h t v x is_inner.low is_inner.high (x_is.means s h) in
         let s1 : State = record s { regs = a.regs } in
         let q = operand_register t x in
         let c : Sets (Shift Sll 2 q m.amount ∷ []) s1 2 is.shown =
@@ -221,65 +189,66 @@ module _ {most total : ℕ} {gs : List RGlobal} {starts : ℕ → ℕ} where
         computed (sets_kept a.stands (omega arith) c) (λ q up. c.others q (omega (arith, up)) ∙ a.others q (omega (arith, is_inner.high, up)))
         (λ m e. runs_then a.runs (runs_then c.runs e)) (λ some. longer_behind (fetch t x) _ (omega arith)) lt
         (alu_gives (record s1 { regs = c.regs }) d 2 q is.shown v u ok (read_register c.regs 2 (omega arith) ∙ c.here)
-        (operand_register_kept x t 2 a.regs c.regs away is_inner.apart (omega arith) c.others ∙ a.here) m.op is.sums)
+        (operand_register_kept x t 2 a.regs c.regs x_is.away is_inner.apart (omega arith) c.others ∙ a.here) m.op is.sums)
 
-    pub computes : (op : Op) (t d v w u : ℕ) (k l : Option ℕ) (x y : Source) → IsInner t → IsTarget d → IsAway x → IsAway y → Means x v → Means y w
-        → ((c : ℕ) → k ≡ Some c → c ≡ v) → ((c : ℕ) → l ≡ Some c → c ≡ w) → v < 2 ^ 32 → w < 2 ^ 32 → op_result op v w ≡ Some u
-        → Computed (op_code op t d (known_operand k x) (known_operand l y)) d u
-    computes op t d v w u k l x y is_inner ok away y_away mx my kv lw vb wb e = by_multiple (multiple_of op l) (multiple_of op k) refl refl
+    pub computes : {k l : Option ℕ} {x y : Source} {v w : ℕ} (op : Op) (t d u : ℕ) → IsInner t → IsTarget d → IsOperand k x v → IsOperand l y w
+        → op_result op v w ≡ Some u → Computed (op_code op t d (known_operand k x) (known_operand l y)) d u
+    computes {k} {l} {x} {y} {v} {w} op t d u is_inner ok x_is y_is e = by_multiple (multiple_of op l) (multiple_of op k) refl refl
       where
         below : u < 2 ^ 32
-        below = result-word op v w u vb wb e
+        below = result-word op v w u x_is.below y_is.below e
 
         -- an operand alone, where the other one is known
-        with_word : (t v : ℕ) (x : Source) (i : Plain) (o : Option ℕ) → 0 < t → t < 4 → Means x v → v < 2 ^ 32
-            → ((c : ℕ) → o ≡ Some c → (c < 2 ^ 32) × (op_result op v c ≡ Some u)) → immediate_of op d (operand_register t x) o ≡ Some i
-            → Computed (fetch t x ++ i ∷ []) d u
-        with_word t v x i None low high mx vb said is = absurd (none-some i is)
-        with_word t v x i (Some c) low high mx vb said is = let known = said c refl in
-            one_operand t d v u x (i ∷ []) low high mx below (λ s at. immediate_gives (operand_register t x) c ok at vb known.0 op is known.1)
+        with_word : {o : Option ℕ} {x y : Source} {v w : ℕ} (t : ℕ) (i : Plain) (p : Option ℕ) → 0 < t → t < 4 → IsOperand o x v → IsOperand p y w
+            → op_result op v w ≡ Some u → immediate_of op d (operand_register t x) p ≡ Some i → Computed (fetch t x ++ i ∷ []) d u
+        with_word t i None low high x_is y_is e is = absurd (none-some i is)
+        with_word {x} t i (Some c) low high x_is y_is e is =
+            let same = y_is.said c refl in
+            one_operand t d u (i ∷ []) low high x_is below
+            (λ s at. immediate_gives (operand_register t x) c ok at x_is.below (omega (arith, same, y_is.below)) op is (rw same e))
 
+        -- both operands, and then an operator
         by_less : (o : Option Plain) → turned_less_of op d (operand_register 2 y) k ≡ o → Computed (code_by_less op t d o x y) d u
-        by_less None is = both op t d v w u x y is_inner ok away mx my vb wb e
-        by_less (Some i) is = one_operand 2 d w u y (i ∷ Logic Xori d d 1 ∷ []) (omega arith) (omega arith) my below
-            (λ s at. less_gives op s d (operand_register 2 y) v w u i k ok at vb wb kv is e)
+        by_less None is =
+            let a = fetches h t v x is_inner.low is_inner.high (x_is.means s h) in
+            let s1 : State = record s { regs = a.regs } in
+            let b = fetches a.stands 2 w y (omega arith) (omega arith) (y_is.means s1 a.stands) in
+            computed b.stands (λ q up. b.others q (omega (arith, up)) ∙ a.others q (omega (arith, is_inner.high, up)))
+            (λ m e. runs_then a.runs (runs_then b.runs e)) (λ some. longer_behind (fetch t x) _ (longer_behind (fetch 2 y) _ some)) below
+            (operation_gives (record s1 { regs = b.regs }) d (operand_register t x) (operand_register 2 y) v w u ok
+            (operand_register_kept x t 2 a.regs b.regs x_is.away is_inner.apart (omega arith) b.others ∙ a.here) b.here op x_is.below y_is.below e)
+        by_less (Some i) is = one_operand 2 d u (i ∷ Logic Xori d d 1 ∷ []) (omega arith) (omega arith) y_is below
+            (λ s at. less_gives op s d (operand_register 2 y) v w u i k ok at x_is.below y_is.below x_is.said is e)
 
         by_left : (o : Option Plain) → turned_immediate_of op d (operand_register 2 y) k ≡ o → Computed (code_by_left op t d o (known_operand k x) (known_operand l y)) d u
         by_left None is = by_less (turned_less_of op d (operand_register 2 y) k) refl
         by_left (Some i) is =
             let there = if_some (is_symmetric op) (immediate_of op d (operand_register 2 y) k) i is in
-            with_word 2 w y i k (omega arith) (omega arith) my wb
-            (λ c is. let same : c ≡ v = kv c is in (omega (arith, same, vb), rw same (symmetric op w v there.0 ∙ e))) there.1
+            with_word 2 i k (omega arith) (omega arith) y_is x_is (symmetric op w v there.0 ∙ e) there.1
 
         by_right : (o : Option Plain) → immediate_of op d (operand_register t x) l ≡ o
             → Computed (code_by_right op t d o (known_operand k x) (known_operand l y)) d u
         by_right None is = by_left (turned_immediate_of op d (operand_register 2 y) k) refl
-        by_right (Some i) is = with_word t v x i l is_inner.low is_inner.high mx vb
-            (λ c is. let same : c ≡ w = lw c is in (omega (arith, same, wb), rw same e)) is
+        by_right (Some i) is = with_word t i l is_inner.low is_inner.high x_is y_is e is
 
         by_multiple : (a b : Option ShiftedSum) → multiple_of op l ≡ a → multiple_of op k ≡ b
             → Computed (code_by_multiple t d a x (code_by_multiple t d b y (code_by_word op t d (known_operand k x) (known_operand l y)))) d u
-        by_multiple (Some m) b is _ = times t d v u x m is_inner ok away mx below (multiplied op l m v w u lw vb wb is e)
-        by_multiple None (Some m) _ is = times t d w u y m is_inner ok y_away my below (turned_multiplied op k m v w u kv vb wb is e)
+        by_multiple (Some m) b is _ = times t d u m is_inner ok x_is below (multiplied op l m v w u y_is.said x_is.below y_is.below is e)
+        by_multiple None (Some m) _ is = times t d u m is_inner ok y_is below (turned_multiplied op k m v w u x_is.said x_is.below y_is.below is e)
         by_multiple None None _ _ = by_right (immediate_of op d (operand_register t x) l) refl
-
-    -- a state in which a register and an offset lead to a place of the data, and what base is kept there
-    pub record AtElement (is : List Plain) (w : Width) (b : ℕ) (z : ℤ) (p : ℕ) (kept : Option Kept) : Type 0 where
-      pub to : State
-      pub apart : b ≢ 2
-      pub is_kept : IsKept gs starts kept to.regs
-      pub others : (q : ℕ) → 4 ≤ q → q ≢ 30 → to.regs q ≡ s.regs q
-      pub runs : RunsTo is s to
-      pub here : wrap (read 0 to.regs b + word_of_offset z) ≡ address_of_place p
-      pub ok : is_open w to.mapped (address_of_place p) ≡ true
-      pub stands : Stands most total gs starts registers g (top ∷ fs) to
 
     -- an element of a global
     module _ (kept : Option Kept) (offset : Option Offset) (a i v : ℕ) (there : element_at g a i ≡ Some v) (k : IsKept gs starts kept s.regs)
         (offsets : IsOffset offset s.regs) where
-      abbrev Reached : Reach → Source → Option Kept → Type 0
-      Reached by x now = AtElement (element_code (width_of gs a) (starts a) by x) (width_of gs a) (element_base by)
-          (element_offset (width_of gs a) (starts a) by) (place_in gs starts a i) now
+      -- a state in which a register and an offset lead to it, and what base is kept there
+      pub record Reached (by : Reach) (x : Source) (now : Option Kept) : Type 0 where
+        pub to : State
+        pub apart : element_base by ≢ 2
+        pub bases : IsKept gs starts now to.regs × IsOffset offset to.regs
+        pub runs : RunsTo (element_code (width_of gs a) (starts a) by x) s to
+        pub here : wrap (read 0 to.regs (element_base by) + word_of_offset (element_offset (width_of gs a) (starts a) by)) ≡ address_of_place (place_in gs starts a i)
+        pub ok : is_open (width_of gs a) to.mapped (address_of_place (place_in gs starts a i)) ≡ true
+        pub stands : Stands most total gs starts registers g (top ∷ fs) to
 
       abbrev this : ℕ → Option Kept
       this t = Some (record { global = a; index = offset_in offset t })
@@ -287,113 +256,117 @@ module _ {most total : ℕ} {gs : List RGlobal} {starts : ℕ → ℕ} where
       few : place_in gs starts a i < UNIT_BYTES
       few = element_few a i v there h
 
-      -- a register and an offset lead to it
-      at_base : {is : List Plain} (m : State) (b : ℕ) (z : ℤ) {kept : Option Kept} → RunsTo is s m → 0 < b → b ≢ 2
-          → wrap (m.regs b + word_of_offset z) ≡ address_of_place (place_in gs starts a i) → IsKept gs starts kept m.regs
-          → ((q : ℕ) → 4 ≤ q → q ≢ 30 → m.regs q ≡ s.regs q) → Stands most total gs starts registers g (top ∷ fs) m
-          → AtElement is (width_of gs a) b z (place_in gs starts a i) kept
-      at_base m b z run low apart here k others st = record {
-        to = m;
-        apart = apart;
-        is_kept = k;
-        others = others;
-        runs = run;
-        here = rw (read_register m.regs b low) here;
-        ok = data_open a i v there st;
-        stands = st;
-      }
-
       -- a base is made in register t
       made : {s : State} (t q : ℕ) → IsTarget t → t ≢ 2 → t ≢ 28 → q ≢ 2 → Stands most total gs starts registers g (top ∷ fs) s
           → Based (base_code (width_of gs a) t (starts a) q) s t (wrap (width_bytes (width_of gs a) * read 0 s.regs q + base_word (starts a)))
       made {s} t q ok t_apart middle apart h = based (width_of gs a) s t q (starts a) (read 0 s.regs q) ok t_apart middle refl apart h.gp (omega (arith, few))
 
       -- from a base in register 1
-      far : (x : Source) → IsAway x → Means x i → Reached ByScratch x kept
-      far x away mx =
-          let c = fetches h 1 i x (omega arith) (omega arith) (mx s h) in
-          let b = made 1 (operand_register 1 x) (record { low = omega arith; high = omega arith }) (λ e. absurd (omega (arith, e)))
-          (λ e. absurd (omega (arith, e))) (operand_register_apart x away) c.stands in
+      far : {known : Option ℕ} {x : Source} → IsOperand known x i → Reached ByScratch x kept
+      far {x} x_is =
+          let c = fetches h 1 i x (omega arith) (omega arith) (x_is.means s h) in
+          let b = made 1 (operand_register 1 x) (omega arith) (omega arith) (omega arith) (operand_register_apart x x_is.away) c.stands in
           let others : (r : ℕ) → 4 ≤ r → b.regs r ≡ s.regs r = λ r low. b.others r (omega (arith, low)) (omega (arith, low)) ∙ c.others r (omega (arith, low)) in
-          at_base (record s { regs = b.regs }) 1 (base_offset (starts a)) (runs_then c.runs b.runs) (omega arith) (λ e. absurd (omega (arith, e)))
-          (from_base (starts a) (width_bytes (width_of gs a) * i) (b.regs 1) few (rw c.here at b.here)) (kept_same others k) (λ r low _. others r low)
-          (run_kept c.stands b.runs (λ r low _. b.others r (omega (arith, low)) (omega (arith, low))))
+          let st = run_kept c.stands b.runs (λ r low _. b.others r (omega (arith, low)) (omega (arith, low))) in
+          record {
+            to = record s { regs = b.regs };
+            apart = omega arith;
+            bases = (kept_same others k, offset_same (λ r low _. others r low) offsets);
+            runs = runs_then c.runs b.runs;
+            here = from_base (starts a) (width_bytes (width_of gs a) * i) (b.regs 1) few (rw c.here at b.here);
+            ok = data_open a i v there st;
+            stands = st;
+          }
 
-      -- what is known of the index
-      index_of_register : (t : ℕ) → IsAway (From (Reg t)) → IsIndex (offset_in offset t) t s.regs
-      index_of_register t away = index_is offset t s.regs away.0 away.1 ((h.words).regs t) offsets
+      -- from a base in register 30
+      module _ (t : ℕ) (away : IsAway (From (Reg t))) (is : read 0 s.regs t ≡ i) where
+        abbrev at : Offset
+        at = offset_in offset t
 
-      -- register 30 has a base for the index
-      at_kept : (t : ℕ) {is : List Plain} (m : State) → RunsTo is s m → IsAway (From (Reg t)) → m.regs t ≡ i → IsIndex (offset_in offset t) t m.regs
-          → m.regs 30 ≡ wrap (width_bytes (width_of gs a) * m.regs (base_index (width_of gs a) (starts a) (offset_in offset t)) + base_word (starts a))
-          → ((q : ℕ) → 4 ≤ q → q ≢ 30 → m.regs q ≡ s.regs q) → Stands most total gs starts registers g (top ∷ fs) m
-          → AtElement is (width_of gs a) 30 (shifted_offset (width_of gs a) (starts a) (offset_in offset t).word)
-          (place_in gs starts a i) (this t)
-      at_kept t m run away shown index base =
-          let o = offset_in offset t in
-          at_base m 30 (shifted_offset (width_of gs a) (starts a) o.word) run (omega arith) (λ e. absurd (omega (arith, e)))
-          (from_shifted (width_of gs a) (starts a) o i (m.regs 30) m.regs (ap m.regs index.register ∙ shown) index.sum few base)
-          (kept_here gs starts a o m.regs (omega (arith, away.0, index.register)) index.low base)
+        abbrev from : ℕ
+        from = base_index (width_of gs a) (starts a) at
 
-      -- from a base that is made in register 30, and kept
-      anew : (t : ℕ) → IsAway (From (Reg t)) → read 0 s.regs t ≡ i
-          → Reached (ByNew (base_index (width_of gs a) (starts a) (offset_in offset t)) (offset_in offset t).word) (From (Reg t)) (this t)
-      anew t away is =
-          let low = away.0 in
-          let high = away.1 in
-          let o = offset_in offset t in
-          let q = base_index (width_of gs a) (starts a) o in
-          let index = index_of_register t away in
-          let q_low : 4 ≤ q = of_index (λ q. 4 ≤ q) (width_of gs a) (starts a) o (omega (arith, low, index.register)) index.low in
-          let q_high : q < 28 = of_index (λ q. q < 28) (width_of gs a) (starts a) o (omega (arith, high, index.register)) index.high in
-          let b = made 30 q (record { low = omega arith; high = omega arith }) (λ e. absurd (omega (arith, e)))
-          (λ e. absurd (omega (arith, e))) (omega (arith, q_low)) h in
-          let others : (r : ℕ) → 4 ≤ r → r ≢ 30 → b.regs r ≡ s.regs r = λ r up ne. b.others r ne (omega (arith, up)) in
-          at_kept t (record s { regs = b.regs }) b.runs away (others t low (omega (arith, high)) ∙ sym (read_register s.regs t (omega (arith, low))) ∙ is)
-          (index_same low high others index)
-          (b.here ∙ ap (λ v. wrap (width_bytes (width_of gs a) * v + base_word (starts a)))
-          (read_register s.regs q (omega (arith, q_low)) ∙ sym (others q q_low (omega (arith, q_high))))) others (run_kept h b.runs others)
+        index : IsIndex at t s.regs
+        index = index_is offset t s.regs away.0 away.1 ((h.words).regs t) offsets
 
-      -- from the base that is kept
-      again : (t : ℕ) → IsAway (From (Reg t)) → read 0 s.regs t ≡ i → (p : Option Kept) → kept ≡ p → holds_base gs starts p a (Some (offset_in offset t)) ≡ true
-          → Reached (ByKept (offset_in offset t).word) (From (Reg t)) (this t)
-      again t away is None same e = absurd (true≢false (sym e))
-      again t away is (Some j) same e =
-          let b = j.global in
-          let p = base_index (width_of gs b) (starts b) j.index in
-          let q = base_index (width_of gs a) (starts a) (offset_in offset t) in
-          let bytes = width_bytes (width_of gs b) in
-          let bytes' = width_bytes (width_of gs a) in
-          let shared = and_parts (nat_eq p q) (shares_base gs starts b a) e in
-          let both = and_parts (nat_eq bytes bytes') (nat_eq (base_word (starts b)) (base_word (starts a))) shared.1 in
-          let base : s.regs 30 ≡ wrap (bytes' * s.regs q + base_word (starts a)) =
-          k.base j same ∙ ap₂ (λ n m. wrap (n * s.regs p + m)) (eqb-true bytes bytes' both.0) (eqb-true _ _ both.1)
-          ∙ ap (λ q. wrap (bytes' * s.regs q + base_word (starts a))) (eqb-true p q shared.0) in
-          at_kept t s (runs_none s) away (sym (read_register s.regs t (omega (arith, away.0))) ∙ is) (index_of_register t away) base (λ q _ _. refl) h
+        at_kept : (by : Reach) (m : State) → RunsTo (element_code (width_of gs a) (starts a) by (From (Reg t))) s m → element_base by ≡ 30
+            → element_offset (width_of gs a) (starts a) by ≡ shifted_offset (width_of gs a) (starts a) (at.word)
+            → m.regs 30 ≡ wrap (width_bytes (width_of gs a) * m.regs from + base_word (starts a))
+            → ((q : ℕ) → 4 ≤ q → q ≢ 30 → m.regs q ≡ s.regs q) → Stands most total gs starts registers g (top ∷ fs) m → Reached by (From (Reg t)) (this t)
+        at_kept by m run base_is offset_is base others st =
+            let sum = sum_same at others index.1 in
+            let shown : m.regs at.register ≡ i = others at.register index.1.0 (omega (arith, index.1.1)) ∙ ap s.regs index.0 ∙ sym (read_register s.regs t (omega (arith, away.0))) ∙ is in
+            record {
+              to = m;
+              apart = omega (arith, base_is);
+              bases = (record { by = λ k e. rw (same_Some k _ (sym e)) (record { sum = sum; base = base }) }, offset_same others offsets);
+              runs = run;
+              here = rw (base_is, offset_is) (from_shifted (width_of gs a) (starts a) at i (m.regs 30) m.regs shown sum.4 few base);
+              ok = data_open a i v there st;
+              stands = st;
+            }
+
+        -- which is made, and kept
+        anew : Reached (ByNew from at.word) (From (Reg t)) (this t)
+        anew =
+            let low : 4 ≤ from = of_index (λ q. 4 ≤ q) (width_of gs a) (starts a) at index.1.0 index.1.2 in
+            let high : from < 28 = of_index (λ q. q < 28) (width_of gs a) (starts a) at index.1.1 index.1.3 in
+            let b = made 30 from (omega arith) (omega arith) (omega arith) (omega (arith, low)) h in
+            let others : (r : ℕ) → 4 ≤ r → r ≢ 30 → b.regs r ≡ s.regs r = λ r up ne. b.others r ne (omega (arith, up)) in
+            at_kept (ByNew from at.word) (record s { regs = b.regs }) b.runs refl refl
+            (rw (others from low (omega (arith, high)), ← read_register s.regs from (omega (arith, low))) b.here) others (run_kept h b.runs others)
+
+        -- or was kept
+        again : (p : Option Kept) → kept ≡ p → holds_base gs starts p a (Some at) ≡ true → Reached (ByKept at.word) (From (Reg t)) (this t)
+        again None same e = absurd (true≢false (sym e))
+        again (Some j) same e = at_kept (ByKept at.word) s (runs_none s) refl refl (grind (arith, nat_tests, (k.by j same).base)) (λ q _ _. refl) h
 
       -- from the global pointer
-      close : (x : Source) (p : ℕ) → p ≡ place_in gs starts a i → nat_lt p 65536 ≡ true → Reached (ByPointer p) x kept
-      close x p same lt =
-          let below : p < 65536 = ltb-true p 65536 lt in
-          let none : p + 0 ≡ p = omega arith in
-          at_base s 28 (near p) (runs_none s) (omega arith) (λ e. absurd (omega (arith, e)))
-          (ap (λ x. wrap (x + word_of_offset (near p))) h.gp ∙ near_word p 0 below (omega (arith, below)) ∙ ap address_of_place (none ∙ same)) k (λ q _ _. refl) h
+      close : (x : Source) (p : ℕ) → p ≡ place_in gs starts a i → p < 65536 → Reached (ByPointer p) x kept
+      close x p same lt = record {
+        to = s;
+        apart = omega arith;
+        bases = (k, offsets);
+        runs = runs_none s;
+        here = rw h.gp (near_word p lt ∙ ap address_of_place same);
+        ok = data_open a i v there h;
+        stands = h;
+      }
 
-      pub elements : (known : Option ℕ) (x : Source) → IsAway x → Means x i → ((w : ℕ) → known ≡ Some w → w ≡ i)
+      pub elements : {known : Option ℕ} {x : Source} → IsOperand known x i
           → Reached (reach_with gs starts kept a known (index_with offset (index_register known x))) x (kept_with a (index_with offset (index_register known x)) kept)
-      elements None (From (Reg t)) away mx said =
-          cond_both (holds_base gs starts kept a (Some (offset_in offset t))) (ByKept (offset_in offset t).word)
-          (ByNew (base_index (width_of gs a) (starts a) (offset_in offset t)) (offset_in offset t).word) (λ r. Reached r (From (Reg t)) (this t))
-          (λ e. again t away (mx s h) kept refl e) (λ _. anew t away (mx s h))
-      elements None x away mx said = far x away mx
-      elements (Some w) x away mx said = go (nat_lt w 65536) (nat_lt (element_place (width_of gs a) (starts a) w) 65536) refl
+      elements {known} {x} x_is = by known x x_is
         where
-          go : (b c : Bool) → nat_lt (element_place (width_of gs a) (starts a) w) 65536 ≡ c
-              → Reached (reach_by (width_of gs a) (starts a) (if b then (if c then Some (element_place (width_of gs a) (starts a) w) else None) else None) None
-              (holds_base gs starts kept a None)) x kept
-          go true true e = close x (element_place (width_of gs a) (starts a) w) (ap (element_place (width_of gs a) (starts a)) (said w refl)) e
-          go true false e = far x away mx
-          go false c e = far x away mx
+          place : ℕ → ℕ
+          place w = element_place (width_of gs a) (starts a) w
+
+          near_or_far : {x : Source} {w : ℕ} → IsOperand (Some w) x i → (o : Option ℕ) → direct (width_of gs a) (starts a) (Some w) ≡ o
+              → Reached (reach_by (width_of gs a) (starts a) o None (holds_base gs starts kept a None)) x kept
+          near_or_far x_is None e = far x_is
+          near_or_far {x} {w} x_is (Some p) e =
+              let near = cond_some (nat_lt (place w) 65536) (place w) p (if_some (nat_lt w 65536) _ p e).1 in
+              close x p (sym near.1 ∙ ap place (x_is.said w refl)) (omega (arith, sym near.1, ltb-true (place w) 65536 near.0))
+
+          by : (known : Option ℕ) (x : Source) → IsOperand known x i
+              → Reached (reach_with gs starts kept a known (index_with offset (index_register known x))) x (kept_with a (index_with offset (index_register known x)) kept)
+          by None (From (Reg t)) x_is =
+              let is = x_is.means s h in
+              cond_both (holds_base gs starts kept a (Some (offset_in offset t))) _ _ (λ r. Reached r (From (Reg t)) (this t))
+              (again t x_is.away is kept refl) (λ _. anew t x_is.away is)
+          by None x x_is = far x_is
+          by (Some w) x x_is = near_or_far x_is (direct (width_of gs a) (starts a) (Some w)) refl
+
+  -- a pseudo-register that is read is an operand
+  pub operand_is : {registers : Places} {g : Arrays} {top : Stored} {fs : List Stored} {s : State} (facts : Facts)
+      (h : Stands most total gs starts (hide facts.deferred registers) g (top ∷ fs) s) → AreDeferred facts.deferred registers
+      → AreFrameHomes top.homes top.count → IsKnown (known_in facts) top.homes registers top.slots → (x v : ℕ) → read_home top.homes registers top.slots x ≡ Some v
+      → IsOperand h (known_in facts x) (operand (slice_get top.homes) facts x) v
+  operand_is facts h lz ok k x v e = record {
+    away = (operand_means h lz x v ok k e).1;
+    means = λ s h. (operand_means h lz x v ok k e).0;
+    said = λ c is. same_Some c v (sym (k.by x c is) ∙ e);
+    below = operand_below h lz x v ok e;
+  }
 
   module _ (g : Arrays) (fs : List Stored) (P : Run → Type 0) (out : List ℕ) (failed : P (Failed out)) where
     pub performs : (i : RInst) (facts : Facts) (registers : Places) (top : Stored) (s : State) (go : Places → Places → Arrays → Run)
@@ -405,13 +378,13 @@ module _ {most total : ℕ} {gs : List RGlobal} {starts : ℕ → ℕ} where
         → P (go registers' slots' g'))
         → P (with_inst gs i (cells top.homes registers top.slots) g out go)
     performs (Const d w) facts registers top s go ok k lz kp h f =
-        tells h lz P (λ r s. go r s g) d (wrap w) out (omega arith) ok k failed
+        tells h lz d (wrap w) (omega arith) ok k P (λ r s. go r s g) out failed
         (λ r' s' to some z. f r' s' g to some z.runs z.stands z.still_deferred (bases_written z.keeps kp) (fact_known facts d (Some (wrap w)) z.is_known)
         (none_last top.homes r' s' to))
     performs (Move d a) facts registers top s go ok k lz kp h f =
         value_or_failed P (read_home top.homes registers top.slots a) out _ failed (λ v e.
-        puts h lz d v (operand_below h lz a v ok e) (λ u is. same_Some u v (sym (k.by a u is) ∙ e)) ok k P (λ r s. go r s g) (operand (slice_get top.homes) facts a)
-        (operand_means h lz a v ok k e).0 out failed
+        let x = operand_is facts h lz ok k a v e in
+        puts h lz d v x.below (λ u is. x.said u is) ok k P (λ r s. go r s g) (operand (slice_get top.homes) facts a) (x.means s h) out failed
         (λ r' s' to some z. f r' s' g to some z.runs z.stands z.still_deferred (bases_written z.keeps kp) (fact_known facts d (known_in facts a) z.is_known)
         (none_last top.homes r' s' to)))
     performs (Bin op d a b) facts registers top s go ok k lz kp h f =
@@ -419,36 +392,34 @@ module _ {most total : ℕ} {gs : List RGlobal} {starts : ℕ → ℕ} where
         value_or_failed P (read_home top.homes registers top.slots b) out _ failed (λ w ew.
         value_or_failed P (op_result op v w) out _ failed (λ u eu.
         let at = slice_get top.homes in
-        let x = operand_means h lz a v ok k ev in
-        let y = operand_means h lz b w ok k ew in
-        let said_b : (c : ℕ) → known_in facts b ≡ Some c → c ≡ w = λ c is. same_Some c w (sym (k.by b c is) ∙ ew) in
-        let z = computes h op (inner_of (at d)) (into (at d)) v w u (known_in facts a) (known_in facts b) (operand at facts a) (operand at facts b)
-        (inner_is (at d)) (into_target top.homes top.count d ok) x.1 y.1
-        (λ s h. (operand_means h lz a v ok k ev).0) (λ s h. (operand_means h lz b w ok k ew).0) (λ c is. same_Some c v (sym (k.by a c is) ∙ ev)) said_b
-        (operand_below h lz a v ok ev) (operand_below h lz b w ok ew) eu in
-        finishes z.stands lz P (λ r s. go r s g) d u out z.ends z.some (λ c is. sym (same_Some u c is)) ok (known_with b ew k) failed
-        (λ r' s' to some p held new. f r' s' g to some p.runs p.stands p.still_deferred (
-          kept_written p.keeps (kept_same z.others kp.0),
-          sum_known op v w u (z.to).regs to.regs facts.offset eu (offset_same (λ q up _. z.others q up) kp.1) (at d)
-              (known_in facts b) (operand at facts a) (home_register top.homes top.count d ok) x.1
-              (λ r is. (let up = (subst IsAway is x.1).0 in z.others r up) ∙ held_operand top.count s (operand at facts a) v x.1 x.0 r is) said_b p.keeps held,
-        )
-        (fact_known facts d None (known_without (known_in facts) b w d u said_b p.is_known)) (only_fresh new)))))
+        let x = operand_is facts h lz ok k a v ev in
+        let y = operand_is facts h lz ok k b w ew in
+        let z = computes h op (inner_of (at d)) (into (at d)) u (inner_is (at d)) (into_target top.homes top.count d ok) x y eu in
+        let before : AreBases gs starts facts (z.to).regs = (kept_same z.others kp.0, offset_same (λ q up _. z.others q up) kp.1) in
+        finishes z.stands lz d u {o = None} (z.ends).below (λ c e. absurd (none-some c e)) ok k P (λ r s. go r s g) _ s z.some out failed (
+          z.ends,
+          λ r' s' to some p held new. f r' s' g to some p.runs p.stands p.still_deferred (
+            (bases_written p.keeps before).0,
+            sum_known op v w u top.count s (z.to).regs to.regs facts.offset eu before.1 z.others (at d) (known_in facts b)
+                (operand at facts a) (λ t e. ok.by d (Reg t) e) x.away (x.means s h) y.said p.keeps held,
+          ) (fact_known facts d None p.is_known) (only_fresh new),
+        ))))
     performs (Load d a i) facts registers top s go ok k lz kp h f =
         value_or_failed P (read_home top.homes registers top.slots i) out _ failed (λ v ev.
         value_or_failed P (element_at g a v) out _ failed (λ w there.
         let width = width_of gs a in
         let o = reach_of gs starts (slice_get top.homes) facts a i in
-        let p = elements h facts.kept facts.offset a v w there kp.0 kp.1 (known_in facts i) (operand (slice_get top.homes) facts i)
-        (operand_means h lz i v ok k ev).1 (λ s h. (operand_means h lz i v ok k ev).0) (λ u is. same_Some u v (sym (k.by i u is) ∙ ev)) in
+        let p = elements h facts.kept facts.offset a v w there kp.0 kp.1 (operand_is facts h lz ok k i v ev) in
         let at = address_of_place (place_in gs starts a v) in
         let load = loads_at width p.to (into (slice_get top.homes d)) (element_base o) (element_offset width (starts a) o) at p.here p.ok in
         let value : shown_at width p.to at ≡ w = (p.stands).elements a v w there in
-        finishes p.stands lz P (λ r s. go r s g) d w {o = None} out
-        (ends_set (into_target top.homes top.count d ok) (runs_then p.runs load) value (rw (← value) (shown_below width p.to at (p.stands).words)))
-        (longer_behind (element_code width (starts a) o (operand (slice_get top.homes) facts i)) _ (omega arith)) (λ w e. absurd (none-some w e)) ok k failed
-        (λ r' s' to some z held new. f r' s' g to some z.runs z.stands z.still_deferred
-        (kept_written z.keeps p.is_kept, offset_written z.keeps (offset_same p.others kp.1)) (fact_known facts d None z.is_known) (only_fresh new))))
+        let e = ends_set (into_target top.homes top.count d ok) (runs_then p.runs load) value (rw (← value) (shown_below width p.to at (p.stands).words)) in
+        finishes p.stands lz d w {o = None} e.below (λ w e. absurd (none-some w e)) ok k P (λ r s. go r s g) _ s
+        (longer_behind (element_code width (starts a) o (operand (slice_get top.homes) facts i)) _ (omega arith)) out failed (
+          e,
+          λ r' s' to some z held new. f r' s' g to some z.runs z.stands z.still_deferred (bases_written z.keeps p.bases) (fact_known facts d None z.is_known)
+              (only_fresh new),
+        )))
     performs (Store a i b) facts registers top s go ok k lz kp h f =
         value_or_failed P (read_home top.homes registers top.slots i) out _ failed (λ v ev.
         value_or_failed P (read_home top.homes registers top.slots b) out _ failed (λ w ew.
@@ -458,11 +429,11 @@ module _ {most total : ℕ} {gs : List RGlobal} {starts : ℕ → ℕ} where
         let at_g = stored_at g a v c g' eg in
         let x = operand (slice_get top.homes) facts i in
         let y = operand (slice_get top.homes) facts b in
+        let y_is = operand_is facts h lz ok k b w ew in
         let o = reach_of gs starts (slice_get top.homes) facts a i in
-        let p = elements h facts.kept facts.offset a v at_g.old at_g.was kp.0 kp.1 (known_in facts i) x
-        (operand_means h lz i v ok k ev).1 (λ s h. (operand_means h lz i v ok k ev).0) (λ u is. same_Some u v (sym (k.by i u is) ∙ ev)) in
+        let p = elements h facts.kept facts.offset a v at_g.old at_g.was kp.0 kp.1 (operand_is facts h lz ok k i v ev) in
         let m = p.to in
-        let z = fetches p.stands 2 w y (omega arith) (omega arith) (operand_means p.stands lz b w ok k ew).0 in
+        let z = fetches p.stands 2 w y (omega arith) (omega arith) (y_is.means m p.stands) in
         let to : State = record m { regs = z.regs } in
         let at = address_of_place (place_in gs starts a v) in
         let store = subst (λ w. RunsTo (element_store width (operand_register 2 y) (starts a) o ∷ []) to (set_at width to at w)) z.here
@@ -470,6 +441,6 @@ module _ {most total : ℕ} {gs : List RGlobal} {starts : ℕ → ℕ} where
         (rw (read_other m.regs z.regs (element_base o) (λ _. z.others (element_base o) p.apart)) p.here) p.ok) in
         f registers top.slots g' (set_at width to at w) (longer_behind (element_code width (starts a) o x) _ (longer_behind (fetch 2 y) _ (omega arith)))
         (runs_then {u = set_at width to at w} p.runs (runs_then {u = set_at width to at w} z.runs store))
-        (data_written a v w g' (operand_below h lz b w ok ew) (ap (arrays_with g a v) (sym (kept_is gs a w c ec)) ∙ eg) z.stands) lz
-        (kept_same (λ q up. z.others q (omega (arith, up))) p.is_kept, offset_same (λ q up ne. z.others q (omega (arith, up)) ∙ p.others q up ne) kp.1) k
+        (data_written a v w g' y_is.below (ap (arrays_with g a v) (sym (kept_is gs a w c ec)) ∙ eg) z.stands) lz
+        (kept_same (λ q up. z.others q (omega (arith, up))) (p.bases).0, offset_same (λ q up _. z.others q (omega (arith, up))) (p.bases).1) k
         (none_last top.homes registers top.slots (set_at width to at w))))))

@@ -61,20 +61,13 @@ pub record AreDeferred (deferred registers : Places) : Type 0 where
   pub holds : (q w : ℕ) → deferred q ≡ Some w → registers q ≡ Some w
   pub below : (q w : ℕ) → deferred q ≡ Some w → w < 2 ^ 32
 
-pub deferred_written : {deferred registers : Places} (r : ℕ) (o : Option ℕ) → AreDeferred deferred registers
-    → AreDeferred (places_with deferred r None) (places_with registers r o)
-deferred_written r o is = record {
-  caller_saved = λ q w e. grind (arith, nat_tests, is.caller_saved);
-  holds = λ q w e. grind (arith, nat_tests, is.holds);
-  below = λ q w e. grind (arith, nat_tests, is.below);
-}
-
-pub one_deferred : {deferred registers : Places} (r v : ℕ) → is_callee_saved r ≡ false → v < 2 ^ 32 → AreDeferred deferred registers
-    → AreDeferred (places_with deferred r (Some v)) (places_with registers r (Some v))
-one_deferred r v caller_saved lt is = record {
-  caller_saved = λ q w e. grind (arith, nat_tests, is.caller_saved);
-  holds = λ q w e. grind (arith, nat_tests, is.holds);
-  below = λ q w e. grind (arith, nat_tests, is.below);
+-- register r is written, or has a word to come
+pub defers : {deferred registers : Places} (r : ℕ) {p o : Option ℕ} → ((w : ℕ) → p ≡ Some w → (is_callee_saved r ≡ false) × (o ≡ Some w) × (w < 2 ^ 32))
+    → AreDeferred deferred registers → AreDeferred (places_with deferred r p) (places_with registers r o)
+defers r told is = record {
+  caller_saved = λ q w e. grind (arith, nat_tests, is.caller_saved, told w);
+  holds = λ q w e. grind (arith, nat_tests, is.holds, told w);
+  below = λ q w e. grind (arith, nat_tests, is.below, told w);
 }
 
 pub none_deferred : (registers : Places) → AreDeferred (λ q. None) registers
@@ -122,20 +115,11 @@ pub record IsLast (last : Last) (hs : List Home) (registers slots : Places) (s :
 pub none_last : (hs : List Home) (registers slots : Places) (s : State) → IsLast no_last hs registers slots s
 none_last hs registers slots s = record { fresh = none_fresh hs registers slots s; comparison = λ m v e. absurd (none-some m e); result = λ m v e. absurd (none-some m e) }
 
--- one more known word, and two words less
-pub known_with : {known : Places} {hs : List Home} {registers slots : Places} (b : ℕ) {w : ℕ} → read_home hs registers slots b ≡ Some w
-    → IsKnown known hs registers slots → IsKnown (places_with known b (Some w)) hs registers slots
-known_with b there k = record { by = λ x u e. grind (arith, nat_tests, there, k.by x u) }
-
-pub known_without : (known : Places) {hs : List Home} {registers slots : Places} (b w d v : ℕ) → ((u : ℕ) → known b ≡ Some u → u ≡ w)
-    → IsKnown (places_with (places_with known b (Some w)) d (Some v)) hs registers slots → IsKnown (places_with known d None) hs registers slots
-known_without known b w d v same k = record { by = λ x u e. grind (arith, nat_tests, same, k.by x u) }
-
 -- a word of the stack shares no byte with an element of data
 pub stack_apart : (u : Width) (a p total : ℕ) → stack_base ≤ a → a < stack_end → p + width_bytes u ≤ total → total ≤ UNIT_BYTES
     → AreApart widths.Word a u (address_of_place p)
-stack_apart widths.Word a p total low high inside few = λ e. absurd (omega (arith, low, high, inside, few, e))
-stack_apart widths.Byte a p total low high inside few = omega (arith, low, high, inside, few)
+stack_apart widths.Word a p total low high inside few = omega arith
+stack_apart widths.Byte a p total low high inside few = omega arith
 
 -- what an operand means in a state, in which the frame has so many slots
 abbrev pub Denotes : ℕ → State → Source → ℕ → Type 0
@@ -189,30 +173,27 @@ IsElsewhere _ q = Unit {0}
 
 -- ---- the base that is kept
 
--- register 30 is the base of a global's elements at an index
-pub record IsKept (gs : List RGlobal) (starts : ℕ → ℕ) (kept : Option Kept) (regs : ℕ → ℕ) : Type 0 where
-  pub low : (k : Kept) → kept ≡ Some k → (4 ≤ (k.index).register) × (4 ≤ (k.index).base)
-  pub base : (k : Kept) → kept ≡ Some k
-      → regs 30 ≡ wrap (width_bytes (width_of gs k.global) * regs (base_index (width_of gs k.global) (starts k.global) k.index) + base_word (starts k.global))
+-- a register is the sum of another one and a word, both of homes
+abbrev pub IsSum : Offset → (ℕ → ℕ) → Type 0
+IsSum o f = (4 ≤ o.register) × (o.register < 28) × (4 ≤ o.base) × (o.base < 28) × (f o.register ≡ wrap (f o.base + o.word))
 
--- a register is the sum of another one and a word
 pub record IsOffset (offset : Option Offset) (regs : ℕ → ℕ) : Type 0 where
-  pub low : (o : Offset) → offset ≡ Some o → (4 ≤ o.register) × (4 ≤ o.base)
-  pub high : (o : Offset) → offset ≡ Some o → (o.register < 28) × (o.base < 28)
-  pub sum : (o : Offset) → offset ≡ Some o → regs o.register ≡ wrap (regs o.base + o.word)
+  pub by : (o : Offset) → offset ≡ Some o → IsSum o regs
 
-pub none_kept : (gs : List RGlobal) (starts : ℕ → ℕ) (regs : ℕ → ℕ) → IsKept gs starts None regs
-none_kept gs starts regs = record { low = λ k e. absurd (none-some k e); base = λ k e. absurd (none-some k e) }
+-- register 30 is the base of a global's elements at an index
+pub record IsBase (gs : List RGlobal) (starts : ℕ → ℕ) (k : Kept) (f : ℕ → ℕ) : Type 0 where
+  pub sum : IsSum k.index f
+  pub base : f 30 ≡ wrap (width_bytes (width_of gs k.global) * f (base_index (width_of gs k.global) (starts k.global) k.index) + base_word (starts k.global))
 
-pub none_offset : (regs : ℕ → ℕ) → IsOffset None regs
-none_offset regs = record { low = λ k e. absurd (none-some k e); high = λ k e. absurd (none-some k e); sum = λ k e. absurd (none-some k e) }
+pub record IsKept (gs : List RGlobal) (starts : ℕ → ℕ) (kept : Option Kept) (regs : ℕ → ℕ) : Type 0 where
+  pub by : (k : Kept) → kept ≡ Some k → IsBase gs starts k regs
 
 -- what registers hold by what is known
 abbrev pub AreBases : (gs : List RGlobal) (starts : ℕ → ℕ) (facts : Facts) (regs : ℕ → ℕ) → Type 0
 AreBases gs starts facts regs = IsKept gs starts facts.kept regs × IsOffset facts.offset regs
 
 pub no_bases : (gs : List RGlobal) (starts : ℕ → ℕ) (regs : ℕ → ℕ) → IsKept gs starts None regs × IsOffset None regs
-no_bases gs starts regs = (none_kept gs starts regs, none_offset regs)
+no_bases gs starts regs = (record { by = λ k e. absurd (none-some k e) }, record { by = λ o e. absurd (none-some o e) })
 
 -- it and the registers of homes are as they were, but for one that is written
 pub record Keeps (l : Option Home) (f f' : ℕ → ℕ) : Type 0 where
@@ -224,102 +205,67 @@ abbrev pub Holds : Option Home → (ℕ → ℕ) → ℕ → Type 0
 Holds (Some (Reg r)) f v = f r ≡ v
 Holds _ f v = Unit {0}
 
--- it is one of this global and this index
-pub kept_here : (gs : List RGlobal) (starts : ℕ → ℕ) (a : ℕ) (o : Offset) (f : ℕ → ℕ) → 4 ≤ o.register → 4 ≤ o.base
-    → f 30 ≡ wrap (width_bytes (width_of gs a) * f (base_index (width_of gs a) (starts a) o) + base_word (starts a))
-    → IsKept gs starts (Some (record { global = a; index = o })) f
-kept_here gs starts a o f low low' is =
-    record { low = λ k e. rw (same_Some k _ (sym e)) (low, low'); base = λ k e. rw (same_Some k _ (sym e)) is }
-
-pub offset_here : (o : Offset) (f : ℕ → ℕ) → 4 ≤ o.register → 4 ≤ o.base → o.register < 28 → o.base < 28 → f o.register ≡ wrap (f o.base + o.word) → IsOffset (Some o) f
-offset_here o f low low' high high' is = record {
-  low = λ x e. rw (same_Some x o (sym e)) (low, low');
-  high = λ x e. rw (same_Some x o (sym e)) (high, high');
-  sum = λ x e. rw (same_Some x o (sym e)) is;
-}
-
 -- a base is made from one register or the other
 pub of_index : (P : ℕ → Type 0) (w : Width) (start : ℕ) (o : Offset) → P o.register → P o.base → P (base_index w start o)
 of_index P w start o p q = cond_both (fits_offset w start o.word) o.base o.register P (λ _. q) (λ _. p)
 
--- what was known of registers that are as they were
-kept_as : {gs : List RGlobal} {starts : ℕ → ℕ} {kept : Option Kept} {f f' : ℕ → ℕ} → f' 30 ≡ f 30
-    → ((k : Kept) → kept ≡ Some k → (f' (k.index).register ≡ f (k.index).register) × (f' (k.index).base ≡ f (k.index).base)) → IsKept gs starts kept f
-    → IsKept gs starts kept f'
-kept_as {gs} {starts} {f} {f'} same both h = record {
-  low = h.low;
-  base = λ k e. (let w = width_of gs k.global in
-      same ∙ h.base k e ∙ ap (λ v. wrap (width_bytes w * v + base_word (starts k.global)))
-      (sym (of_index (λ q. f' q ≡ f q) w (starts k.global) k.index (both k e).0 (both k e).1)));
+-- what is known of registers that are as they were
+base_as : {gs : List RGlobal} {starts : ℕ → ℕ} {f f' : ℕ → ℕ} (k : Kept) → f' 30 ≡ f 30 → f' (k.index).register ≡ f (k.index).register
+    → f' (k.index).base ≡ f (k.index).base → IsBase gs starts k f → IsBase gs starts k f'
+base_as {gs} {starts} {f} {f'} k same register base h = record {
+  sum = rw (register, base) h.sum;
+  base = rw (same, of_index (λ q. f' q ≡ f q) (width_of gs k.global) (starts k.global) k.index register base) h.base;
 }
 
-offset_as : {offset : Option Offset} {f f' : ℕ → ℕ} → ((o : Offset) → offset ≡ Some o → (f' o.register ≡ f o.register) × (f' o.base ≡ f o.base))
-    → IsOffset offset f → IsOffset offset f'
-offset_as both h = record { low = h.low; high = h.high; sum = λ o e. rw ((both o e).0, (both o e).1) (h.sum o e) }
+pub sum_same : {f f' : ℕ → ℕ} (o : Offset) → ((q : ℕ) → 4 ≤ q → q ≢ 30 → f' q ≡ f q) → IsSum o f → IsSum o f'
+sum_same o same h = rw (same o.register h.0 (omega (arith, h.1)), same o.base h.2 (omega (arith, h.3))) h
 
 pub kept_same : {gs : List RGlobal} {starts : ℕ → ℕ} {kept : Option Kept} {f f' : ℕ → ℕ} → ((q : ℕ) → 4 ≤ q → f' q ≡ f q) → IsKept gs starts kept f
     → IsKept gs starts kept f'
-kept_same same h = kept_as (same 30 (omega arith)) (λ k e. (same (k.index).register (h.low k e).0, same (k.index).base (h.low k e).1)) h
+kept_same same h = record {
+  by = λ k e. let is = h.by k e in base_as k (same 30 (omega arith)) (same (k.index).register is.sum.0) (same (k.index).base is.sum.2) is;
+}
 
 pub offset_same : {offset : Option Offset} {f f' : ℕ → ℕ} → ((q : ℕ) → 4 ≤ q → q ≢ 30 → f' q ≡ f q) → IsOffset offset f → IsOffset offset f'
-offset_same same h = offset_as (λ o e. let high = h.high o e in (
-  same o.register (h.low o e).0 (omega (arith, high.0)),
-  same o.base (h.low o e).1 (omega (arith, high.1)),
-)) h
+offset_same same h = record { by = λ o e. sum_same o same (h.by o e) }
 
--- what is known by an offset stays so past a write, if it does where the write is elsewhere
-unless_written : {A : Type 0} (offset : A → Offset) (P : Option A → Type 0) (r : ℕ) (o : Option A) → P None
-    → (((a : A) → o ≡ Some a → ((offset a).register ≢ r) × ((offset a).base ≢ r)) → P o) → P (without offset r o)
-unless_written offset P r None none still = none
-unless_written offset P r (Some a) none still = cond_both (touches (offset a) r) None (Some a) P (λ _. none) (λ t. still (λ b e.
-    let parts = or_parts (nat_eq (offset a).register r) (nat_eq (offset a).base r) t in
-    rw (same_Some b a (sym e)) (eqb-false (offset a).register r parts.0, eqb-false (offset a).base r parts.1)))
+-- what is known by an offset past a write was known, and the write is elsewhere
+without_some : {A : Type 0} (offset : A → Offset) (r : ℕ) (o : Option A) (a : A) → without offset r o ≡ Some a
+    → (o ≡ Some a) × ((offset a).register ≢ r) × ((offset a).base ≢ r)
+without_some offset r None a e = absurd (none-some a e)
+without_some offset r (Some b) a e = grind (arith, nat_tests)
 
-past_written : {A : Type 0} (offset : A → Offset) (P : Option A → Type 0) (l : Option Home) (o : Option A) → P None
-    → (((a : A) → o ≡ Some a → IsElsewhere l (offset a).register × IsElsewhere l (offset a).base) → P o) → P (past offset l o)
-past_written offset P (Some (Reg r)) o none still = unless_written offset P r o none still
-past_written offset P (Some (Copied r j)) o none still = unless_written offset P r o none still
-past_written offset P _ o none still = still (λ a e. (tt, tt))
+past_some : {A : Type 0} (offset : A → Offset) (l : Option Home) (o : Option A) (a : A) → past offset l o ≡ Some a
+    → (o ≡ Some a) × IsElsewhere l (offset a).register × IsElsewhere l (offset a).base
+past_some offset (Some (Reg r)) o a e = without_some offset r o a e
+past_some offset (Some (Copied r j)) o a e = without_some offset r o a e
+past_some offset _ o a e = (e, tt, tt)
 
 module _ {l : Option Home} {f f' : ℕ → ℕ} (same : Keeps l f f') where
-  pub kept_written : {gs : List RGlobal} {starts : ℕ → ℕ} {kept : Option Kept} → IsKept gs starts kept f → IsKept gs starts (kept_past l kept) f'
-  kept_written {gs} {starts} {kept} h = past_written (λ k. k.index) (λ k. IsKept gs starts k f') l kept (none_kept gs starts f')
-      (λ away. kept_as same.base (λ k e. (
-        same.others (k.index).register (h.low k e).0 (away k e).0,
-        same.others (k.index).base (h.low k e).1 (away k e).1,
-      )) h)
-
   pub offset_written : {offset : Option Offset} → IsOffset offset f → IsOffset (offset_past l offset) f'
-  offset_written {offset} h = past_written (λ o. o) (λ o. IsOffset o f') l offset (none_offset f')
-      (λ away. offset_as (λ o e. (
-        same.others o.register (h.low o e).0 (away o e).0,
-        same.others o.base (h.low o e).1 (away o e).1,
-      )) h)
+  offset_written {offset} h = record {
+    by = λ o e. let was = past_some (λ o. o) l offset o e in let is = h.by o was.0 in
+        rw (same.others o.register is.0 was.1, same.others o.base is.2 was.2) is;
+  }
 
   pub bases_written : {gs : List RGlobal} {starts : ℕ → ℕ} {kept : Option Kept} {offset : Option Offset} → IsKept gs starts kept f × IsOffset offset f
       → IsKept gs starts (kept_past l kept) f' × IsOffset (offset_past l offset) f'
-  bases_written h = (kept_written h.0, offset_written h.1)
+  bases_written {kept} h = (
+    record {
+      by = λ k e. let was = past_some (λ k. k.index) l kept k e in let is = h.0.by k was.0 in
+          base_as k same.base (same.others (k.index).register is.sum.0 was.1) (same.others (k.index).base is.sum.2 was.2) is;
+    },
+    offset_written h.1,
+  )
 
 -- what is known of a register
-pub record IsIndex (o : Offset) (t : ℕ) (f : ℕ → ℕ) : Type 0 where
-  pub register : o.register ≡ t
-  pub low : 4 ≤ o.base
-  pub high : o.base < 28
-  pub sum : f o.register ≡ wrap (f o.base + o.word)
+abbrev pub IsIndex : Offset → ℕ → (ℕ → ℕ) → Type 0
+IsIndex o t f = (o.register ≡ t) × IsSum o f
 
 pub index_is : (offset : Option Offset) (t : ℕ) (f : ℕ → ℕ) → 4 ≤ t → t < 28 → f t < 2 ^ 32 → IsOffset offset f → IsIndex (offset_in offset t) t f
-index_is None t f low high below h = record { register = refl; low = low; high = high; sum = omega arith }
+index_is None t f low high below h = (refl, omega arith)
 index_is (Some o) t f low high below h = cond_both (nat_eq o.register t) o (no_offset t) (λ o. IsIndex o t f)
-    (λ e. record { register = eqb-true o.register t e; low = (h.low o refl).1; high = (h.high o refl).1; sum = h.sum o refl })
-    (λ _. record { register = refl; low = low; high = high; sum = omega arith })
-
-pub index_same : {o : Offset} {t : ℕ} {f f' : ℕ → ℕ} → 4 ≤ t → t < 28 → ((q : ℕ) → 4 ≤ q → q ≢ 30 → f' q ≡ f q) → IsIndex o t f → IsIndex o t f'
-index_same {o} low high same h = record {
-  register = h.register;
-  low = h.low;
-  high = h.high;
-  sum = rw (same o.register (omega (arith, h.register)) (omega (arith, h.register)), same o.base h.low (omega (arith, h.high))) h.sum;
-}
+    (λ e. (eqb-true o.register t e, h.by o refl)) (λ _. (refl, omega arith))
 
 -- instructions that end in a write of register d, from a state m that they have reached but for it
 pub record Ends (is : List Plain) (s m : State) (d v : ℕ) : Type 0 where

@@ -6,7 +6,7 @@ use Rattle.std.proofs.lemmas.Bool.{eqb-false, cond_both}
 use Rattle.std.proofs.lemmas.Bool.Decides.{nat_tests}
 use Rattle.std.proofs.lemmas.Nat.{and_comm, or_comm, xor_comm, and_mask}
 use Rattle.std.proofs.lemmas.Int.{ints}
-use Rattle.std.proofs.lemmas.Option.{same_Some, none-some}
+use Rattle.std.proofs.lemmas.Option.{same_Some, none-some, cond_some}
 use Rattle.words.specs.declared.sign.Sign.{Sign}
 use Rattle.words.specs.declared.sign.Sign.TheVariants.{Signed, Unsigned}
 use Rattle.words.specs.declared.operator.Operator.{Operator}
@@ -48,17 +48,47 @@ pub record Gives (is : List Plain) (s : State) (d v : ℕ) : Type 0 where
   pub others : (r : ℕ) → r ≢ d → regs r ≡ s.regs r
   pub some : 1 ≤ length is
 
--- one instruction
-one : {i : Plain} {s : State} {d : ℕ} (x : ℕ) {v : ℕ} → IsTarget d → RunsTo (i ∷ []) s (set s d x) → x ≡ v → Gives (i ∷ []) s d v
-one {s} {d} x ok run e = record {
+-- that register alone, HI and LO
+writes : {is : List Plain} {s : State} {d v : ℕ} (hi lo x : ℕ) → IsTarget d → RunsTo is s (record s { regs = put s.regs d x; hi = hi; lo = lo })
+    → 1 ≤ length is → x ≡ v → Gives is s d v
+writes {s} {d} hi lo x ok run some e = record {
   regs = put s.regs d x;
-  hi = s.hi;
-  lo = s.lo;
+  hi = hi;
+  lo = lo;
   runs = run;
   here = put_here s.regs d x ok ∙ e;
   others = λ r ne. put_other s.regs d x r ne;
-  some = omega arith;
+  some = some;
 }
+
+-- one instruction
+one : {i : Plain} {s : State} {d : ℕ} (x : ℕ) {v : ℕ} → IsTarget d → RunsTo (i ∷ []) s (set s d x) → x ≡ v → Gives (i ∷ []) s d v
+one {s} x ok run e = writes s.hi s.lo x ok run (omega arith) e
+
+-- and another one on its result
+then_one : {i j : Plain} {s : State} {d v u : ℕ} (f : ℕ → ℕ) → IsTarget d → ((t : State) → RunsTo (j ∷ []) t (set t d (f (read 0 t.regs d))))
+    → Gives (i ∷ []) s d v → f v ≡ u → Gives (i ∷ j ∷ []) s d u
+then_one {j} {s} {d} {v} f ok runs g e =
+    let m : State = record s { regs = g.regs; hi = g.hi; lo = g.lo } in
+    record {
+      regs = put g.regs d (f v);
+      hi = g.hi;
+      lo = g.lo;
+      runs = runs_then g.runs (subst (λ y. RunsTo (j ∷ []) m (set m d (f y))) (read_register g.regs d ok.low ∙ g.here) (runs m));
+      here = put_here g.regs d (f v) ok ∙ e;
+      others = λ r ne. put_other g.regs d (f v) r ne ∙ g.others r ne;
+      some = omega arith;
+    }
+
+-- a test that is turned behind
+turned_word : (b : Bool) → op_value operators.Xor (truth_word b) (wrap 1) ≡ truth_word (not b)
+unfolding op_value
+turned_word true = refl
+turned_word false = refl
+
+then_turned : {i : Plain} {s : State} {d u : ℕ} (b : Bool) → IsTarget d → Some (truth_word (not b)) ≡ Some u → Gives (i ∷ []) s d (truth_word b)
+    → Gives (i ∷ Logic Xori d d 1 ∷ []) s d u
+then_turned {u} b ok e g = then_one (λ x. op_value operators.Xor x (wrap 1)) ok (λ t. record { ends = refl }) g (turned_word b ∙ same_Some _ u e)
 
 -- ---- operators of the machine
 
@@ -72,9 +102,8 @@ low_bits n = omega arith
 
 pub shifted : (op : ShiftOp) (v c : ℕ) → op_value (shift_operator op) v (wrap (c % 32)) ≡ op_value (shift_operator op) v c
 unfolding op_value
-shifted Sll v c = ap (λ k. wrap (v * 2 ^ k)) (low_bits c)
-shifted Srl v c = ap (λ k. v / 2 ^ k) (low_bits c)
-shifted Sra v c = ap (λ k. if nat_lt v (2 ^ 31) then v / 2 ^ k else 2 ^ 32 - 1 - (2 ^ 32 - 1 - v) / 2 ^ k) (low_bits c)
+shifted Sll v c = rw low_bits
+shifted _ v c = rw low_bits
 
 -- with a register and a word
 module _ {s : State} {d q v u : ℕ} (ok : IsTarget d) (left : read 0 s.regs q ≡ v) where
@@ -90,18 +119,6 @@ module _ {s : State} {d q v u : ℕ} (ok : IsTarget d) (left : read 0 s.regs q �
   by_gives op c e = one (op_value (shift_operator op) (read 0 s.regs q) (wrap (c % 32))) ok (record { ends = refl })
       (rw left (shifted op v c ∙ direct (shift_operator op) v c u e))
 
--- ---- divisions
-
--- the state after a division
-abbrev quotient_in : Sign → State → (a b : ℕ) → ℕ
-quotient_in sign s a b = op_value (quotient_operator sign) (read 0 s.regs a) (read 0 s.regs b)
-
-abbrev remainder_in : Sign → State → (a b : ℕ) → ℕ
-remainder_in sign s a b = op_value (remainder_operator sign) (read 0 s.regs a) (read 0 s.regs b)
-
-abbrev divided_state : Sign → State → (a b : ℕ) → State
-divided_state sign s a b = record s { hi = remainder_in sign s a b; lo = quotient_in sign s a b }
-
 -- ---- tests
 
 -- two words are equal exactly where their difference is 0
@@ -113,87 +130,48 @@ unequal_word : (v w : ℕ) → v < 2 ^ 32 → w < 2 ^ 32 → op_value operators.
 unfolding op_value
 unequal_word v w lv lw = grind (arith, nat_tests)
 
--- the other truth word
-turned_truth : (b : Bool) → bit_xor (truth_word b) 1 ≡ truth_word (not b)
-turned_truth true = refl
-turned_truth false = refl
-
-not_below_signed : (v w : ℕ) → op_value operators.Xor (op_value operators.Slt w v) (wrap 1) ≡ truth_word (not (int_lt (signed w) (signed v)))
-unfolding op_value
-not_below_signed v w = turned_truth (int_lt (signed w) (signed v))
-
-not_below : (v w : ℕ) → op_value operators.Xor (op_value operators.Sltu w v) (wrap 1) ≡ truth_word (not (nat_lt w v))
-unfolding op_value
-not_below v w = turned_truth (nat_lt w v)
-
--- an operator on two registers, and then an instruction on its result
-after_alu : (op : AluOp) (a b : ℕ) (second : Plain) (f : ℕ → ℕ) (s : State) (d u : ℕ) → IsTarget d
-    → ((t : State) → RunsTo (second ∷ []) t (set t d (f (read 0 t.regs d)))) → f (op_value (alu_operator op) (read 0 s.regs a) (read 0 s.regs b)) ≡ u
-    → Gives (Alu op d a b ∷ second ∷ []) s d u
-after_alu op a b second f s d u ok runs e =
-    let x = op_value (alu_operator op) (read 0 s.regs a) (read 0 s.regs b) in
-    let m = set s d x in
-    let held : read 0 m.regs d ≡ x = read_register m.regs d ok.low ∙ put_here s.regs d x ok in
-    record {
-      regs = put m.regs d (f x);
-      hi = s.hi;
-      lo = s.lo;
-      runs = runs_then (alu_runs s op d a b) (subst (λ y. RunsTo (second ∷ []) m (set m d (f y))) held (runs m));
-      here = put_here m.regs d (f x) ok ∙ e;
-      others = λ r ne. put_other m.regs d (f x) r ne ∙ put_other s.regs d x r ne;
-      some = omega arith;
-    }
-
 -- ---- each operator
 
 -- on two registers
 module _ (s : State) (d a b v w u : ℕ) (ok : IsTarget d) (left : read 0 s.regs a ≡ v) (right : read 0 s.regs b ≡ w) where
+  abbrev shown : Operator → ℕ
+  shown op = op_value op (read 0 s.regs a) (read 0 s.regs b)
+
+  shows : (op : Operator) → value_of op v w ≡ Some u → shown op ≡ u
+  shows op e = rw (left, right) (direct op v w u e)
+
   pub alu_gives : (op : AluOp) → value_of (alu_operator op) v w ≡ Some u → Gives (Alu op d a b ∷ []) s d u
-  alu_gives op e =
-      one (op_value (alu_operator op) (read 0 s.regs a) (read 0 s.regs b)) ok (alu_runs s op d a b)
-      (rw (left, right) (direct (alu_operator op) v w u e))
+  alu_gives op e = one (shown (alu_operator op)) ok (alu_runs s op d a b) (shows (alu_operator op) e)
 
   shift_gives : (op : ShiftOp) → value_of (shift_operator op) v w ≡ Some u → Gives (ShiftBy op d a b ∷ []) s d u
-  shift_gives op e =
-      one (op_value (shift_operator op) (read 0 s.regs a) (read 0 s.regs b)) ok (record { ends = refl })
-      (rw (left, right) (direct (shift_operator op) v w u e))
-
-  product_gives : op_result Mul v w ≡ Some u → Gives (operation Mul d a b) s d u
-  product_gives e =
-      let low = op_value operators.MultuLow (read 0 s.regs a) (read 0 s.regs b) in
-      record {
-        regs = put s.regs d low;
-        hi = op_value operators.MultuHigh (read 0 s.regs a) (read 0 s.regs b);
-        lo = low;
-        runs = record { ends = refl };
-        here = put_here s.regs d low ok ∙ rw (left, right) (direct operators.MultuLow v w u e);
-        others = λ r ne. put_other s.regs d low r ne;
-        some = omega arith;
-      }
+  shift_gives op e = one (shown (shift_operator op)) ok (record { ends = refl }) (shows (shift_operator op) e)
 
   -- a part of the result of a division, which is moved out of HI or LO
-  part_gives : (place : HiLo) (sign : Sign) (operator : Operator) (x : ℕ)
-      → RunsTo (MoveFrom place d ∷ []) (divided_state sign s a b)
-      (set (divided_state sign s a b) d (op_value operator (read 0 s.regs a) (read 0 s.regs b)))
+  part_gives : (place : HiLo) (sign : Sign) (operator : Operator) (x : ℕ) → (let m : State = record s { hi = shown (remainder_operator sign); lo = shown (quotient_operator sign) } in
+      RunsTo (MoveFrom place d ∷ []) m (set m d (shown operator)))
       → (if has_quotient sign v w then Some x else None) ≡ Some u → value_of operator v w ≡ Some u → Gives (Divide sign a b ∷ MoveFrom place d ∷ []) s d u
   part_gives place sign operator x moved fits e =
-      let y = op_value operator (read 0 s.regs a) (read 0 s.regs b) in
-      let divides : RunsTo (Divide sign a b ∷ []) s (divided_state sign s a b) =
+      let high = shown (remainder_operator sign) in
+      let low = shown (quotient_operator sign) in
+      let divides : RunsTo (Divide sign a b ∷ []) s (record s { hi = high; lo = low }) =
       record { ends = rw (left, right, (if_some (has_quotient sign v w) (Some x) u fits).0) } in
-      record {
-        regs = put s.regs d y;
-        hi = remainder_in sign s a b;
-        lo = quotient_in sign s a b;
-        runs = runs_then divides moved;
-        here = put_here s.regs d y ok ∙ rw (left, right) (direct operator v w u e);
-        others = λ r ne. put_other s.regs d y r ne;
-        some = omega arith;
-      }
+      writes high low (shown operator) ok (runs_then divides moved) (omega arith) (shows operator e)
+
+  -- a comparison and then a test of its result
+  difference_gives : (j : Plain) (f : ℕ → ℕ) → ((t : State) → RunsTo (j ∷ []) t (set t d (f (read 0 t.regs d)))) → f (op_value operators.Subu v w) ≡ u
+      → Gives (Alu alu.Subu d a b ∷ j ∷ []) s d u
+  difference_gives j f runs e = then_one f ok runs (one (shown operators.Subu) ok (alu_runs s alu.Subu d a b) refl) (rw (left, right) e)
+
+  turned_gives : (op : AluOp) (t : Bool) → op_value (alu_operator op) w v ≡ truth_word t → Some (truth_word (not t)) ≡ Some u
+      → Gives (Alu op d b a ∷ Logic Xori d d 1 ∷ []) s d u
+  turned_gives op t is e =
+      then_turned t ok e (one (op_value (alu_operator op) (read 0 s.regs b) (read 0 s.regs a)) ok (alu_runs s op d b a) (rw (left, right) is))
 
   pub operation_gives : (op : Op) → v < 2 ^ 32 → w < 2 ^ 32 → op_result op v w ≡ Some u → Gives (operation op d a b) s d u
   operation_gives Add lv lw e = alu_gives alu.Addu e
   operation_gives Sub lv lw e = alu_gives alu.Subu e
-  operation_gives Mul lv lw e = product_gives e
+  operation_gives Mul lv lw e = writes (shown operators.MultuHigh) (shown operators.MultuLow) (shown operators.MultuLow) ok (record { ends = refl }) (omega arith)
+      (shows operators.MultuLow e)
   operation_gives DivS lv lw e = part_gives Lo Signed operators.DivQuotient (quotient Signed v w) (record { ends = refl }) e e
   operation_gives DivU lv lw e = part_gives Lo Unsigned operators.DivuQuotient (quotient Unsigned v w) (record { ends = refl }) e e
   operation_gives RemS lv lw e = part_gives Hi Signed operators.DivRemainder (remainder Signed v w) (record { ends = refl }) e e
@@ -204,32 +182,23 @@ module _ (s : State) (d a b v w u : ℕ) (ok : IsTarget d) (left : read 0 s.regs
   operation_gives Shl lv lw e = shift_gives Sll e
   operation_gives ShrU lv lw e = shift_gives Srl e
   operation_gives ShrS lv lw e = shift_gives Sra e
-  operation_gives Eq lv lw e =
-      after_alu alu.Subu a b (Imm Sltiu d d (pos 1)) (λ x. op_value operators.Sltu x 1) s d u ok (λ t. imm_runs t Sltiu d d 1 (omega arith))
-      (rw (left, right) (equal_word v w lv lw ∙ same_Some (truth_word (v == w)) u e))
-  operation_gives Ne lv lw e =
-      after_alu alu.Subu a b (Alu alu.Sltu d 0 d) (λ x. op_value operators.Sltu 0 x) s d u ok (λ t. alu_runs t alu.Sltu d 0 d)
-      (rw (left, right) (unequal_word v w lv lw ∙ same_Some (truth_word (not (v == w))) u e))
+  operation_gives Eq lv lw e = difference_gives (Imm Sltiu d d (pos 1)) (λ x. op_value operators.Sltu x 1) (λ t. imm_runs t Sltiu d d 1 (omega arith))
+      (equal_word v w lv lw ∙ same_Some (truth_word (v == w)) u e)
+  operation_gives Ne lv lw e = difference_gives (Alu alu.Sltu d 0 d) (λ x. op_value operators.Sltu 0 x) (λ t. alu_runs t alu.Sltu d 0 d)
+      (unequal_word v w lv lw ∙ same_Some (truth_word (not (v == w))) u e)
   operation_gives LtS lv lw e = alu_gives alu.Slt e
   operation_gives LtU lv lw e = alu_gives alu.Sltu e
-  operation_gives LeS lv lw e =
-      after_alu alu.Slt b a (Logic Xori d d 1) (λ x. op_value operators.Xor x (wrap 1)) s d u ok (λ t. record { ends = refl })
-      (rw (left, right) (not_below_signed v w ∙ same_Some (truth_word (not (int_lt (signed w) (signed v)))) u e))
-  operation_gives LeU lv lw e =
-      after_alu alu.Sltu b a (Logic Xori d d 1) (λ x. op_value operators.Xor x (wrap 1)) s d u ok (λ t. record { ends = refl })
-      (rw (left, right) (not_below v w ∙ same_Some (truth_word (not (nat_lt w v))) u e))
+  operation_gives LeS lv lw e = turned_gives alu.Slt (int_lt (signed w) (signed v)) (direct operators.Slt w v _ refl) e
+  operation_gives LeU lv lw e = turned_gives alu.Sltu (nat_lt w v) (direct operators.Sltu w v _ refl) e
 
 -- operands may be turned
-turned : (v w : ℕ) → (v == w) ≡ (w == v)
-turned v w = grind (arith, nat_tests)
-
 pub symmetric : (op : Op) (v w : ℕ) → is_symmetric op ≡ true → op_result op v w ≡ op_result op w v
 symmetric Add v w e = let turned : wrap (v + w) ≡ wrap (w + v) = omega arith in ap Some turned
 symmetric And v w e = ap Some (and_comm v w)
 symmetric Or v w e = ap Some (or_comm v w)
 symmetric Xor v w e = ap Some (xor_comm v w)
-symmetric Eq v w e = ap (λ b. Some (truth_word b)) (turned v w)
-symmetric Ne v w e = ap (λ b. Some (truth_word (not b))) (turned v w)
+symmetric Eq v w e = grind (arith, nat_tests)
+symmetric Ne v w e = grind (arith, nat_tests)
 symmetric Mul v w e = let turned : v * w ≡ w * v = omega arith in ap (λ n. Some (wrap n)) turned
 symmetric _ v w e = absurd (true≢false (sym e))
 
@@ -267,8 +236,12 @@ module _ {s : State} {d : ℕ} (q c : ℕ) {v u : ℕ} {i : Plain} (ok : IsTarge
 
   -- an instruction that there is where a test holds
   when : (b : Bool) (x : Plain) → (if b then Some x else None) ≡ Some i → (b ≡ true → Gives (x ∷ []) s d u) → Gives (i ∷ []) s d u
-  when true x is g = given x (same_Some x i is) (g refl)
-  when false x is g = absurd (none-some i is)
+  when b x is g = let there = cond_some b x i is in given x there.1 (g there.0)
+
+  -- or else another one
+  either : (b : Bool) (o p : Option Plain) → (if b then o else p) ≡ Some i → (b ≡ true → o ≡ Some i → Gives (i ∷ []) s d u)
+      → (b ≡ false → p ≡ Some i → Gives (i ∷ []) s d u) → Gives (i ∷ []) s d u
+  either b o p is first second = cond_both b o p (λ o. o ≡ Some i → Gives (i ∷ []) s d u) first second is
 
   small_gives : (op : ImmOp) → (if is_small c then Some (Imm op d q (half c)) else None) ≡ Some i → value_of (imm_operator op) v c ≡ Some u
       → Gives (i ∷ []) s d u
@@ -284,12 +257,11 @@ module _ {s : State} {d : ℕ} (q c : ℕ) {v u : ℕ} {i : Plain} (ok : IsTarge
       (λ _. imm_gives ok left Addiu (opposite c) (omega (arith, lc)) (sum_turned v c lc ∙ direct operators.Subu v c u e))
   immediate_gives And is e = half_gives Andi is e
   immediate_gives Or is e = half_gives Ori is e
-  immediate_gives Xor is e = cond_both (nat_lt c 65536) (Some (Logic Xori d q c)) (if nat_eq c 4294967295 then Some (Alu alu.Nor d q 0) else None)
-      (λ o. o ≡ Some i → Gives (i ∷ []) s d u)
+  immediate_gives Xor is e = either (nat_lt c 65536) (Some (Logic Xori d q c)) _ is
       (λ lt is. given (Logic Xori d q c) (same_Some _ i is) (logic_gives ok left Xori c (ltb-true c 65536 lt) e))
       (λ _ is. when (nat_eq c 4294967295) _ is (λ all.
       let value : 2 ^ 32 - 1 - v ≡ u = same_Some _ u (sym (complement-is v lv) ∙ (rw (eqb-true c 4294967295 all) at e)) in
-      one (op_value operators.Nor (read 0 s.regs q) 0) ok (alu_runs s alu.Nor d q 0) (rw left (sym (complement_agrees v lv) ∙ value)))) is
+      one (op_value operators.Nor (read 0 s.regs q) 0) ok (alu_runs s alu.Nor d q 0) (rw left (sym (complement_agrees v lv) ∙ value))))
   immediate_gives Shl is e = given (Shift Sll d q (c % 32)) (same_Some _ i is) (by_gives ok left Sll c e)
   immediate_gives ShrU is e = given (Shift Srl d q (c % 32)) (same_Some _ i is) (by_gives ok left Srl c e)
   immediate_gives ShrS is e = given (Shift Sra d q (c % 32)) (same_Some _ i is) (by_gives ok left Sra c e)
@@ -301,52 +273,28 @@ module _ {s : State} {d : ℕ} (q c : ℕ) {v u : ℕ} {i : Plain} (ok : IsTarge
   immediate_gives LtU is e = small_gives Sltiu is e
   immediate_gives LeS is e = when (is_small (next_word c)) _ is (λ small. imm_gives ok left Slti (next_word c) (omega arith)
       (not_above_signed v c lv lc small ∙ same_Some (truth_word (not (int_lt (signed c) (signed v)))) u e))
-  immediate_gives LeU is e = cond_both (nat_eq c 4294967295) None (if is_small (next_word c) then Some (Imm Sltiu d q (half (next_word c))) else None)
-      (λ o. o ≡ Some i → Gives (i ∷ []) s d u) (λ _ is. absurd (none-some i is))
+  immediate_gives LeU is e = either (nat_eq c 4294967295) None _ is (λ _ is. absurd (none-some i is))
       (λ less is. when (is_small (next_word c)) _ is (λ _. imm_gives ok left Sltiu (next_word c) (omega arith)
-      (not_above v c lc (eqb-false c 4294967295 less) ∙ same_Some (truth_word (not (nat_lt c v))) u e))) is
+      (not_above v c lc (eqb-false c 4294967295 less) ∙ same_Some (truth_word (not (nat_lt c v))) u e)))
   immediate_gives Mul is e = when (is_power c) _ is (λ b. by_gives ok left Sll (exponent c) (ap (λ n. Some (wrap (v * n))) (power c b) ∙ e))
   immediate_gives DivU is e = when (is_power c) _ is (λ b. by_gives ok left Srl (exponent c)
       (ap (λ n. Some (v / n)) (power c b) ∙ (if_some (has_quotient Unsigned v c) (Some (v / c)) u e).1))
-  immediate_gives RemU is e = cond_both (is_power c) (if nat_lt (c - 1) 65536 then Some (Logic Andi d q (c - 1)) else None) None
-      (λ o. o ≡ Some i → Gives (i ∷ []) s d u)
+  immediate_gives RemU is e = either (is_power c) _ None is
       (λ b is. when (nat_lt (c - 1) 65536) _ is (λ lt.
       let low : bit_and v (c - 1) ≡ v % c = ap (λ n. bit_and v (n - 1)) (sym (power c b)) ∙ and_mask v (exponent c % 32) ∙ ap (λ n. v % n) (power c b) in
       logic_gives ok left Andi (c - 1) (ltb-true (c - 1) 65536 lt) (ap Some low ∙ (if_some (has_quotient Unsigned v c) (Some (v % c)) u e).1)))
-      (λ _ is. absurd (none-some i is)) is
+      (λ _ is. absurd (none-some i is))
   immediate_gives _ is e = absurd (none-some i is)
-
--- a test that is turned behind
-turned_word : (b : Bool) → op_value operators.Xor (truth_word b) (wrap 1) ≡ truth_word (not b)
-unfolding op_value
-turned_word b = turned_truth b
-
-then_turned : (i : Plain) (s : State) (d u : ℕ) (b : Bool) → IsTarget d → Some (truth_word (not b)) ≡ Some u → Gives (i ∷ []) s d (truth_word b)
-    → Gives (i ∷ Logic Xori d d 1 ∷ []) s d u
-then_turned i s d u b ok e g =
-    let m : State = record s { regs = g.regs; hi = g.hi; lo = g.lo } in
-    let x = op_value operators.Xor (read 0 g.regs d) (wrap 1) in
-    let second : RunsTo (Logic Xori d d 1 ∷ []) m (set m d (op_value operators.Xor (read 0 g.regs d) (wrap 1))) = record { ends = refl } in
-    record {
-      regs = put g.regs d x;
-      hi = g.hi;
-      lo = g.lo;
-      runs = runs_then g.runs second;
-      here = put_here g.regs d x ok ∙ ap (λ y. op_value operators.Xor y (wrap 1)) (read_register g.regs d ok.low ∙ g.here) ∙ turned_word b
-          ∙ same_Some (truth_word (not b)) u e;
-      others = λ r ne. put_other g.regs d x r ne ∙ g.others r ne;
-      some = omega arith;
-    }
 
 pub less_gives : (op : Op) (s : State) (d q v w u : ℕ) (i : Plain) (known : Option ℕ) → IsTarget d → read 0 s.regs q ≡ w → v < 2 ^ 32 → w < 2 ^ 32
     → ((c : ℕ) → known ≡ Some c → c ≡ v) → turned_less_of op d q known ≡ Some i → op_result op v w ≡ Some u → Gives (i ∷ Logic Xori d d 1 ∷ []) s d u
 less_gives LeS s d q v w u i (Some c) ok left lv lw said is e =
     let same : c ≡ v = said c refl in
-    then_turned i s d u (int_lt (signed w) (signed c)) ok (rw same e)
+    then_turned (int_lt (signed w) (signed c)) ok (rw same e)
     (immediate_gives q c ok left lw (omega (arith, same, lv)) LtS is refl)
 less_gives LeU s d q v w u i (Some c) ok left lv lw said is e =
     let same : c ≡ v = said c refl in
-    then_turned i s d u (nat_lt w c) ok (rw same e)
+    then_turned (nat_lt w c) ok (rw same e)
     (immediate_gives q c ok left lw (omega (arith, same, lv)) LtU is refl)
 less_gives _ s d q v w u i _ ok left lv lw said is e = absurd (none-some i is)
 

@@ -13,7 +13,7 @@ use Rattle.rtl.specs.declared.block.RGlobal.{RGlobal}
 use Rattle.mips_homes.specs.declared.homed.Home.{Home}
 use Rattle.mips_homes.specs.declared.homed.Home.TheVariants.{Copied}
 use Rattle.mips_emit.specs.Frames.{HaveNoCopies, link_words}
-use Rattle.mips_emit.specs.Elements.{width_of, element_place, place_in, place_behind, address_of_place, data_middle}
+use Rattle.mips_emit.specs.Elements.{width_of, width_bytes, element_place, place_in, place_behind, address_of_place, data_middle}
 use Rattle.mips_emit.proofs.View.{word_at, shown_at}
 
 -- a frame: the slots, the registers put aside, then the link
@@ -103,6 +103,10 @@ pub record LieApart (total : ℕ) (gs : List RGlobal) (starts : ℕ → ℕ) (g 
       → (place_behind gs starts a i ≤ place_in gs starts b j) ⊎ (place_behind gs starts b j ≤ place_in gs starts a i)
   pub even : (a : ℕ) → starts a % 4 ≡ 0
   pub few : total ≤ UNIT_BYTES
+
+pub width_some : (w : Width) → 0 < width_bytes w
+width_some Word = omega arith
+width_some Byte = omega arith
 
 -- `total` is how many bytes of data there are
 pub record Stands (most total : ℕ) (gs : List RGlobal) (starts : ℕ → ℕ) (registers : Places) (g : Arrays) (fs : List Stored) (s : State) : Type 0 where

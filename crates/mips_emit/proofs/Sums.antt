@@ -1,5 +1,5 @@
 -- Operators that leave no sum in a register.
-use Rattle.std.proofs.Common.{◌≡◌, ℕ, true, Option, Some, None, refl, sym, ap, true≢false}
+use Rattle.std.proofs.Common.{◌≡◌, true, Option, Some, None, refl, sym, true≢false, ℕ}
 use Rattle.std.specs.Option.{is_none}
 use Rattle.rtl.specs.declared.operator.Op.{Op}
 use Rattle.rtl.specs.declared.operator.Op.TheVariants.{Add, Sub}
@@ -7,17 +7,14 @@ use Rattle.mips_homes.specs.declared.homed.Home.{Home}
 use Rattle.mips_homes.specs.declared.homed.Home.TheVariants.{Reg}
 use Rattle.mips_emit.specs.declared.location.Source.{Source}
 use Rattle.mips_emit.specs.declared.location.Source.TheVariants.{From}
-use Rattle.mips_emit.specs.Offsets.{addend, offset_from, sum_offset}
+use Rattle.mips_emit.specs.Offsets.{addend, sum_offset}
 
 -- an operator adds a word or none, whatever the word is
-adds_none : (op : Op) (c : ℕ) → is_none (addend op 0) ≡ true → addend op c ≡ None
-adds_none Add c none = absurd (true≢false (sym none))
-adds_none Sub c none = absurd (true≢false (sym none))
-adds_none _ c none = refl
-
 pub no_sum : (place : Option Home) (op : Op) (right : Option ℕ) (x : Source) → is_none (addend op 0) ≡ true → sum_offset place op right x ≡ None
-no_sum (Some (Reg t)) op (Some c) (From (Reg r)) none = ap (offset_from t r) (adds_none op c none)
-no_sum _ op _ _ none = refl
+no_sum (Some (Reg t)) Add (Some c) (From (Reg r)) none = absurd (true≢false (sym none))
+no_sum (Some (Reg t)) Sub (Some c) (From (Reg r)) none = absurd (true≢false (sym none))
+no_sum (Some (Reg t)) _ (Some c) (From (Reg r)) none = refl
+no_sum _ _ _ _ none = refl
 
 -- nor is one left where the right operand is no known word
 pub no_sum_of_unknown : (place : Option Home) (op : Op) (x : Source) → sum_offset place op None x ≡ None

@@ -1,6 +1,5 @@
-use Rattle.std.proofs.Common.{◌≡◌, ◌-◌, take, sym, ap, ◌∙◌, arith, refl, eq-eqb, ne_eqb, get_or, None}
-use Rattle.std.specs.Prelude.{reverse, if◌then◌else◌}
-use Rattle.mips_emit.specs.declared.facts.Fact.{Fact}
+use Rattle.std.proofs.Common.{◌≡◌, ◌-◌, take, sym, ap, ◌∙◌, arith, eq-eqb, ne_eqb, None}
+use Rattle.std.specs.Prelude.{reverse}
 use Rattle.mips_emit.specs.Locations.{known_of}
 use Rattle.mips_emit.proofs.Newest.{newest_step, newest_last}
 use Rattle.mips_emit.proofs.facts.known_of.Goals as goal
@@ -10,19 +9,13 @@ loop-i-init c = ap (λ facts. known_of facts c.args.x) (newest_last c.args.facts
 
 pub returns-then-x-facts : goal.returns-then-x-facts
 returns-then-x-facts c =
-    let f : Fact = get_or c.args.facts.now (c.loop-i.i - 1) (record { register = 0; word = None }) in
-    ap (λ b. if b then f.word else known_of (take (c.loop-i.i - 1 - c.saturating_sub-forgotten.result) (reverse (take (c.loop-i.i - 1) c.args.facts.now))) c.args.x)
-    (sym (eq-eqb c.args.x f.register c.if-x-facts.true))
-    ∙ sym (newest_step c.args.facts.now c.args.x c.loop-i.i c.saturating_sub-forgotten.result (record { register = 0; word = None }) f c.loop-i-test.true c.loop-i.auto.i refl)
-    ∙ c.loop-i.invariant
+    let step = newest_step c.args.facts.now c.args.x c.loop-i.i c.saturating_sub-forgotten.result (record { register = 0; word = None }) c.loop-i-test.true c.loop-i.auto.i in
+    sym (rw (eq-eqb c.args.x _ c.if-x-facts.true) at step) ∙ c.loop-i.invariant
 
 pub loop-i-preserved : goal.loop-i-preserved
 loop-i-preserved c =
-    let f : Fact = get_or c.args.facts.now (c.loop-i.i - 1) (record { register = 0; word = None }) in
-    ap (λ b. if b then f.word else known_of (take (c.loop-i.i - 1 - c.saturating_sub-forgotten.result) (reverse (take (c.loop-i.i - 1) c.args.facts.now))) c.args.x)
-    (sym (ne_eqb c.args.x f.register c.if-x-facts.false))
-    ∙ sym (newest_step c.args.facts.now c.args.x c.loop-i.i c.saturating_sub-forgotten.result (record { register = 0; word = None }) f c.loop-i-test.true c.loop-i.auto.i refl)
-    ∙ c.loop-i.invariant
+    let step = newest_step c.args.facts.now c.args.x c.loop-i.i c.saturating_sub-forgotten.result (record { register = 0; word = None }) c.loop-i-test.true c.loop-i.auto.i in
+    sym (rw (ne_eqb c.args.x _ c.if-x-facts.false) at step) ∙ c.loop-i.invariant
 
 pub returns : goal.returns
 returns c =

@@ -1,31 +1,17 @@
-use Rattle.mips_emit.proofs.Emitted.{insts_more, next_asks, none_asked}
-use Rattle.std.proofs.Common.{List, [], ◌++◌, None, refl, sym, ap, ◌∙◌, arith}
+use Rattle.std.proofs.Common.{List, [], ◌++◌, refl, sym, ap, ◌∙◌, arith}
 use Rattle.std.proofs.lemmas.List.{append-nil, at_drop_all}
 use Rattle.rtl.specs.declared.instruction.RInst.{RInst}
-use Rattle.mips_emit.specs.declared.comparison.Asked.TheVariants.{Nothing}
 use Rattle.mips_emit.specs.Locations.{facts_of, locations, known_after}
 use Rattle.mips_emit.specs.Code.{context_of}
 use Rattle.mips_emit.specs.Comparisons.{insts_code, last_after, no_last}
-use Rattle.mips_emit.proofs.Prefixes.{stops_later}
+use Rattle.mips_emit.specs.Prefixes.{emission}
+use Rattle.mips_emit.proofs.Emitted.{insts_more}
 use Rattle.mips_emit.proofs.inst.emit_insts.Goals as goal
 
 pub loop-inst-preserved : goal.loop-inst-preserved
-loop-inst-preserved c =
-    let context = context_of c.args.setting.now in
-    let i = c.loop-inst.inst-index in
-    let left = c.loop-inst.left in
-    let more = c.if-left-eq0.false in
-    let was = c.loop-inst.invariant in
-    let z = insts_more context c.args.asked i left c.args.insts.now _ _ _ _ _ _ _ _ c.loop-inst-test.true more c.in_ok-emit_inst.ensures
-    c.in_ok-learn.ensures.is (was.0, was.1, was.2, was.3) in (
-      z.0,
-      z.1,
-      z.2,
-      z.3,
-      λ final now s. was.4 final now
-          (stops_later context c.args.asked Nothing c.args.insts.now i left _ None _ final _ now c.loop-inst-test.true was.0
-          (next_asks c.args.asked left more) (none_asked context.at (facts_of c.loop-inst.facts) _) _ _ c.in_ok-learn.ensures.is c.in_ok-emit_inst.ensures s),
-    )
+loop-inst-preserved c = insts_more (context_of c.args.setting.now) c.args.asked c.args.insts.now (emission (facts_of c.args.facts.now) c.args.code.now.items)
+    (emission (facts_of c.loop-inst.facts) c.loop-inst.code.items) (emission _ _) c.loop-inst.inst-index c.loop-inst.left _ c.loop-inst-test.true
+    c.if-left-eq0.false c.in_ok-emit_inst.ensures c.in_ok-learn.ensures.is c.loop-inst.invariant
 
 pub loop-inst-init : goal.loop-inst-init
 loop-inst-init c = (omega arith, refl, refl, refl, λ final now s. s)

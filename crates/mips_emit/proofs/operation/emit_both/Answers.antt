@@ -13,6 +13,5 @@ returns c =
     let rt = c.operand_register-rt.ensures ∙ ap (λ t. operand_register t y) c.register.ensures in
     let first = sym (ap₂ (λ a b. take 1 (operation c.args.op c.args.rd a b)) c.operand_register-rs.ensures rt) ∙ c.first_of.ensures in
     let both = one_or_two_are c.first_of.result c.second_of.result _ first (c.second_of.ensures (operand_register c.args.inner x) (operand_register 2 y)) in
-    subst (λ (l : List Plain). Emits c.emit_one_or_two.result c.args.code.now.items (fetch c.args.inner x ++ (fetch 2 y ++ l)) c.emit_one_or_two.new.code.items) both
-    (rw (← c.register-2.ensures) (emits_behind c.emit_one_or_two.result _ _ _ _ _ c.in_ok-emit_fetch.ensures
-    (emits_behind c.emit_one_or_two.result _ _ _ _ _ c.in_ok-emit_fetch-2.ensures c.emit_one_or_two.ensures)))
+    rw (← both, ← c.register-2.ensures) (emits_behind c.emit_one_or_two.result _ _ _ _ _ c.in_ok-emit_fetch.ensures
+    (emits_behind c.emit_one_or_two.result _ _ _ _ _ c.in_ok-emit_fetch-2.ensures c.emit_one_or_two.ensures))
