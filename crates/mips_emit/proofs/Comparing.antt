@@ -60,17 +60,9 @@ opposite_said b u e = grind (arith, nat_tests)
 
 -- ---- the sign of a word
 
-above_zero : (w : ℕ) → w < 2 ^ 32 → zero_passes AboveZero w ≡ is_below Signed 0 w
-above_zero w lt = grind (arith, ints)
-
-below_zero : (w : ℕ) → w < 2 ^ 32 → zero_passes BelowZero w ≡ is_below Signed w 0
-below_zero w lt = grind (arith, ints)
-
-at_most_zero : (w : ℕ) → w < 2 ^ 32 → zero_passes AtMostZero w ≡ not (is_below Signed 0 w)
-at_most_zero w lt = grind (arith, ints)
-
-at_least_zero : (w : ℕ) → w < 2 ^ 32 → zero_passes AtLeastZero w ≡ not (is_below Signed w 0)
-at_least_zero w lt = grind (arith, ints)
+signs : (w : ℕ) → w < 2 ^ 32 → (zero_passes AboveZero w ≡ is_below Signed 0 w) × (zero_passes BelowZero w ≡ is_below Signed w 0)
+    × (zero_passes AtMostZero w ≡ not (is_below Signed 0 w)) × (zero_passes AtLeastZero w ≡ not (is_below Signed w 0))
+signs w lt = (grind (arith, ints), grind (arith, ints), grind (arith, ints), grind (arith, ints))
 
 known_zero : (k : Option ℕ) (v : ℕ) → ((c : ℕ) → k ≡ Some c → c ≡ v) → is_known_zero k ≡ true → v ≡ 0
 known_zero None v said is = absurd (true≢false (sym is))
@@ -226,30 +218,20 @@ module _ {most total : ℕ} {gs : List RGlobal} {starts : ℕ → ℕ} where
       decides Eq form is e = subst (Given Eq) (same_Some (OnPair Equal) form is) (on_pair Equal (said (v == w) u e))
       decides Ne form is e = subst (Given Ne) (same_Some (OnPair NotEqual) form is) (on_pair NotEqual (said (not (v == w)) u e))
       decides LtS form is e = subst (Given LtS) (same_Some _ form is) (cond_both (is_known_zero k) (OnRight AboveZero) _ (Given LtS)
-          (λ z. on_right AboveZero (above_zero w y_is.below ∙ said (is_below Signed 0 w) u (rw (known_zero k v x_is.said z) at e)))
+          (λ z. on_right AboveZero ((signs w y_is.below).0 ∙ said (is_below Signed 0 w) u (rw (known_zero k v x_is.said z) at e)))
           (λ _. cond_both (is_known_zero l) (OnLeft BelowZero) _ (Given LtS)
-          (λ z. on_left BelowZero (below_zero v x_is.below ∙ said (is_below Signed v 0) u (rw (known_zero l w y_is.said z) at e)))
+          (λ z. on_left BelowZero ((signs v x_is.below).1 ∙ said (is_below Signed v 0) u (rw (known_zero l w y_is.said z) at e)))
           (λ _. less LtS Signed (is_immediate LeS k) refl refl e)))
       decides LtU form is e = subst (Given LtU) (same_Some _ form is) (less LtU Unsigned (is_immediate LeU k) refl refl e)
       decides LeS form is e = subst (Given LeS) (same_Some _ form is) (cond_both (is_known_zero l) (OnLeft AtMostZero) _ (Given LeS)
-          (λ z. on_left AtMostZero (at_most_zero v x_is.below ∙ said (not (is_below Signed 0 v)) u (rw (known_zero l w y_is.said z) at e)))
+          (λ z. on_left AtMostZero ((signs v x_is.below).2 ∙ said (not (is_below Signed 0 v)) u (rw (known_zero l w y_is.said z) at e)))
           (λ _. cond_both (is_known_zero k) (OnRight AtLeastZero) _ (Given LeS)
-          (λ z. on_right AtLeastZero (at_least_zero w y_is.below ∙ said (not (is_below Signed w 0)) u (rw (known_zero k v x_is.said z) at e)))
+          (λ z. on_right AtLeastZero ((signs w y_is.below).3 ∙ said (not (is_below Signed w 0)) u (rw (known_zero k v x_is.said z) at e)))
           (λ _. at_most LeS Signed (not (is_immediate LeS l)) refl refl e)))
       decides LeU form is e = subst (Given LeU) (same_Some _ form is) (at_most LeU Unsigned (not (is_immediate LeU l)) refl refl e)
       decides _ form is e = absurd (none-some form is)
 
-      -- both are known, and so is the truth
-      known : (op : Op) (b : Bool) → b ≡ not (nat_eq u 0) → Given op (Known b)
-      known op b e = record {
-        to = s;
-        runs = runs_nop s;
-        some = omega arith;
-        stands = h;
-        tells = e;
-        result = λ e. absurd (true≢false (sym e));
-      }
-
+      -- where both are known, so is the truth
       with_truth : (op : Op) (form : Form) → (a b : Option ℕ) → k ≡ a → l ≡ b → (o : Option Form) → form_of op k l ≡ o
           → form_with (known_truth op a b) o ≡ Some form → op_result op v w ≡ Some u → Given op form
       with_truth op form a b ka lb None is e r = absurd (none-some form e)
@@ -258,7 +240,8 @@ module _ {most total : ℕ} {gs : List RGlobal} {starts : ℕ → ℕ} where
       with_truth op form (Some a) (Some b) ka lb (Some made) is e r =
           let there : op_result op a b ≡ Some u = ap₂ (op_result op) (x_is.said a ka) (y_is.said b lb) ∙ r in
           let is_known : Some (Known (not (nat_eq u 0))) ≡ Some form = sym (ap (λ o. form_with (truth_of o) (Some made)) there) ∙ e in
-          subst (Given op) (same_Some (Known (not (nat_eq u 0))) form is_known) (known op (not (nat_eq u 0)) refl)
+          subst (Given op) (same_Some (Known (not (nat_eq u 0))) form is_known)
+          (record { to = s; runs = runs_nop s; some = omega arith; stands = h; tells = refl; result = λ e. absurd (true≢false (sym e)) })
 
       pub decides_for : (asked : Asked) (op : Op) (form : Form) → form_for asked op k l ≡ Some form → op_result op v w ≡ Some u → Given op form
       decides_for Nothing op form is e = absurd (none-some form is)

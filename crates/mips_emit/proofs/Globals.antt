@@ -1,5 +1,5 @@
 -- Elements of globals, and their places in data.
-use Rattle.std.proofs.Common.{◌≡◌, ◌≢◌, ℕ, zero, suc, ◌+◌, ◌*◌, ◌%◌, ◌^◌, ◌<◌, ◌≤◌, ◌⊎◌, inl, inr, Bool, true, false, cond, ◌&&◌, ◌==◌, List, []}
+use Rattle.std.proofs.Common.{◌≡◌, ◌≢◌, ℕ, zero, suc, ◌+◌, ◌*◌, ◌%◌, ◌^◌, ◌<◌, ◌≤◌, ◌⊎◌, inl, inr, ⊎_elim, Bool, true, false, cond, ◌&&◌, ◌==◌, List, []}
 use Rattle.std.proofs.Common.{◌∷◌, Option, Some, None, refl, sym, ap, ap₂, ◌∙◌, arith, ne_eqb}
 use Rattle.std.specs.Prelude.{slice_get, slice_set}
 use Rattle.std.proofs.lemmas.Bool.{cases_eq}
@@ -60,6 +60,10 @@ pub record StoredAt (g : Arrays) (a i v : ℕ) (g' : Arrays) : Type 0 where
   pub was : element_at g a i ≡ Some old
   pub now : (b j w : ℕ) → element_at g' b j ≡ Some w → ((b ≡ a) × (j ≡ i) × (w ≡ v)) ⊎ ((b ≡ a → j ≡ i → ⊥) × (element_at g b j ≡ Some w))
 
+-- an element that there is, there was
+was_there : {g : Arrays} {a i v : ℕ} {g' : Arrays} (at : StoredAt g a i v g') (b j w : ℕ) → element_at g' b j ≡ Some w → (old : ℕ) × (element_at g b j ≡ Some old)
+was_there at b j w is = ⊎_elim (λ x. (at.old, rw (x.0, x.1) at.was)) (λ x. (w, x.1)) (at.now b j w is)
+
 pub stored_at : (g : Arrays) (a i v : ℕ) (g' : Arrays) → arrays_with g a i v ≡ Some g' → StoredAt g a i v g'
 stored_at g a i v g' e =
     let array = chain-some (slice_get g a) (λ (words : List ℕ). chain (slice_get words i) (λ _. Some (slice_set g a (slice_set words i v)))) g' e in
@@ -95,56 +99,25 @@ module _ {most total : ℕ} {gs : List RGlobal} {starts : ℕ → ℕ} {register
       let w = width_of gs a in
       let p = address_of_place (place_in gs starts a i) in
       let here = h.inside a i at.old at.was in
-      let few = h.few in
-      let open_at = data_open a i at.old at.was h in
       record {
         words = set_at_words w s p v h.words;
         mapped = h.mapped;
         held = h.held;
         stack = stack_same most (word_at s) (word_at (set_at w s p v)) (s.regs 29) fs
-            (λ b le. stack_kept w s (place_in gs starts a i) v total b here few (omega (arith, le, h.room))) h.stack;
+            (λ b le. stack_kept w s (place_in gs starts a i) v total b here h.few (omega (arith, le, h.room))) h.stack;
         room = h.room;
         aligned = h.aligned;
-        elements = λ b j x is. value at open_at b j x (at.now b j x is);
+        elements = λ b j x is. ⊎_elim (λ o. rw (o.0, o.1, o.2) (shown_here w s p v (data_open a i at.old at.was h) lt))
+            (λ o. shown_other w (width_of gs b) s p v (address_of_place (place_in gs starts b j))
+            (parts_apart w (width_of gs b) (place_in gs starts a i) (place_in gs starts b j) total here (h.inside b j x o.1) h.few
+            (h.apart a i b j at.old x at.was o.1 (λ e f. o.0 (sym e) (sym f)))) ∙ h.elements b j x o.1)
+            (at.now b j x is);
         places = record {
-          inside = λ b j x is. inside at b j x (at.now b j x is);
-          apart = λ b j c k x y is there ne. apart at b j c k x y (at.now b j x is) (at.now c k y there) ne;
+          inside = λ b j x is. let o = was_there at b j x is in h.inside b j o.0 o.1;
+          apart = λ b j c k x y is there ne. let o = was_there at b j x is in let q = was_there at c k y there in h.apart b j c k o.0 q.0 o.1 q.1 ne;
           even = h.even;
           few = h.few;
         };
         linked = h.linked;
         gp = h.gp;
       }
-    where
-      -- the element that was stored, or another as it was
-      Now : (b j w : ℕ) → Type 0
-      Now b j w = ((b ≡ a) × (j ≡ i) × (w ≡ kept (width_of gs a) v)) ⊎ ((b ≡ a → j ≡ i → ⊥) × (element_at g b j ≡ Some w))
-
-      At : Type 0
-      At = StoredAt g a i (kept (width_of gs a) v) g'
-
-      value : At → is_open (width_of gs a) s.mapped (address_of_place (place_in gs starts a i)) ≡ true → (b j w : ℕ) → Now b j w
-          → shown_at (width_of gs b) (set_at (width_of gs a) s (address_of_place (place_in gs starts a i)) v) (address_of_place (place_in gs starts b j)) ≡ w
-      value at ok b j w (inl x) =
-          rw (x.0, x.1, x.2) (shown_here (width_of gs a) s (address_of_place (place_in gs starts a i)) v ok lt)
-      value at ok b j w (inr x) =
-          shown_other (width_of gs a) (width_of gs b) s (address_of_place (place_in gs starts a i)) v (address_of_place (place_in gs starts b j))
-          (parts_apart (width_of gs a) (width_of gs b) (place_in gs starts a i) (place_in gs starts b j) total (h.inside a i at.old at.was)
-          (h.inside b j w x.1) h.few
-          (h.apart a i b j at.old w at.was x.1 (λ e f. x.0 (sym e) (sym f))))
-          ∙ h.elements b j w x.1
-
-      -- an element that there is, there was
-      was : At → (b j w : ℕ) → Now b j w → (old : ℕ) × (element_at g b j ≡ Some old)
-      was at b j w (inl x) = (at.old, rw (x.0, x.1) at.was)
-      was at b j w (inr x) = (w, x.1)
-
-      inside : At → (b j w : ℕ) → Now b j w → place_behind gs starts b j ≤ total
-      inside at b j w x = let o = was at b j w x in h.inside b j o.0 o.1
-
-      apart : At → (b j c k w y : ℕ) → Now b j w → Now c k y → (b ≡ c → j ≡ k → ⊥)
-          → (place_behind gs starts b j ≤ place_in gs starts c k) ⊎ (place_behind gs starts c k ≤ place_in gs starts b j)
-      apart at b j c k w y x z ne =
-          let o = was at b j w x in
-          let q = was at c k y z in
-          h.apart b j c k o.0 q.0 o.1 q.1 ne

@@ -29,15 +29,6 @@ use Rattle.mips_emit.proofs.Stands.{Stored, size_of, with_slots, stack_same, sta
 use Rattle.mips_emit.proofs.Operands.{IsKnown, nothing_known, hide, AreDeferred, none_deferred, defers, known_register, known_slot}
 use Rattle.mips_emit.proofs.Operands.{IsFresh, none_fresh, stack_apart, Denotes, IsAway, longer, longer_behind, bring_some, Keeps, Holds, Ends, runs_nop}
 
--- a slot has one copy, if any
-copy_once : {hs : List Home} {count : ℕ} → AreFrameHomes hs count → (x y : ℕ) {q r k : ℕ} → slice_get hs x ≡ Some (Copied q k) → slice_get hs y ≡ Some (Copied r k)
-    → q ≡ r
-copy_once ok x y c d = let same : x ≡ y = ok.apart x y _ _ c d refl in cc
-
--- and none where a pseudo-register has the slot alone
-has_no_copy : {hs : List Home} {count : ℕ} → AreFrameHomes hs count → (x y : ℕ) {r k : ℕ} → slice_get hs x ≡ Some (Slot k) → slice_get hs y ≡ Some (Copied r k) → ⊥
-has_no_copy ok x y c d = let same : x ≡ y = ok.apart x y _ _ c d refl in cc
-
 -- a step that goes wrong where there is no home, and else goes on with what holds of the home
 at_home : (P : Run → Type 0) (G : Option Home → Type 0) (o : Option Home) (out : List ℕ) (go : Home → Run) → P (Failed out)
     → ((l : Home) → o ≡ Some l → G (Some l) → P (go l)) → G o → P (with_value o out go)
@@ -145,20 +136,13 @@ module _ {most total : ℕ} {gs : List RGlobal} {starts : ℕ → ℕ} where
     shown : (t q v : ℕ) → read 0 s.regs q ≡ v → Fetched [] t q v
     shown t q v d = record { regs = s.regs; runs = runs_none s; here = d; others = λ r ne. refl; stands = h }
 
-    loaded : {is : List Plain} {t v : ℕ} → 0 < t → t < 4 → Sets is s t v → Fetched is t t v
-    loaded {t} low high c = record {
-      regs = c.regs;
-      runs = c.runs;
-      here = read_register c.regs t low ∙ c.here;
-      others = c.others;
-      stands = sets_kept h high c;
-    }
-
     pub fetches : (t v : ℕ) (x : Source) → 0 < t → t < 4 → Denotes top.count s x v → Fetched (fetch t x) t (operand_register t x) v
     fetches t v Zero low high d = shown t 0 v (sym d)
     fetches t v (From (Reg r)) low high d = shown t r v d
     fetches t v (From (Copied r k)) low high d = shown t r v d
-    fetches t v x low high d = loaded low high (brings t v x (omega arith) d)
+    fetches t v x low high d =
+        let c = brings t v x (omega arith) d in
+        record { regs = c.regs; runs = c.runs; here = read_register c.regs t low ∙ c.here; others = c.others; stands = sets_kept h high c }
 
     -- slots are known that memory and the copies show
     slots_stand : {slots : Places} {m : ℕ → ℕ} → IsWords (record s { memory = m })
@@ -242,22 +226,19 @@ module _ {most total : ℕ} {gs : List RGlobal} {starts : ℕ → ℕ} where
         let lt = ok.by x (Copied r k) copy in
         let range = (ok.copied).range x r k copy in (
           stores_slot copy_changed r k v lt (read_register regs r (omega (arith, range.0)) ∙ is),
-          fewer_slots (slot_written copy_changed lt below (λ y q c. ap regs (copy_once ok y x c copy) ∙ is)) (λ j w at. grind (arith, nat_tests)),
+          fewer_slots (slot_written copy_changed lt below (λ y q c. let same = ok.apart y x _ _ c copy refl in cc)) (λ j w at. grind (arith, nat_tests)),
         )
 
   module _ {deferred registers : Places} {g : Arrays} {top : Stored} {fs : List Stored} {s : State}
       (h : Stands most total gs starts (hide deferred registers) g (top ∷ fs) s) (are_deferred : AreDeferred deferred registers) where
-    slot_below : (k v : ℕ) → k < top.count → top.slots k ≡ Some v → v < 2 ^ 32
-    slot_below k v ok is = rw (← (h.stack.0).slots k v ok is) (word_below s (s.regs 29 + 4 * k) h.words)
-
     home_below : (home : Home) (v : ℕ) → IsHome top.count home → in_home registers top.slots home ≡ Some v → v < 2 ^ 32
     home_below (Reg r) v ok is = by (deferred r) refl
       where
         by : (o : Option ℕ) → deferred r ≡ o → v < 2 ^ 32
         by None e = rw (← h.held r v ok.0 ok.1 (rw e is)) ((h.words).regs r)
         by (Some w) e = rw (same_Some v w (sym is ∙ are_deferred.holds r w e)) (are_deferred.below r w e)
-    home_below (Slot k) v ok is = slot_below k v ok is
-    home_below (Copied r k) v ok is = slot_below k v ok is
+    home_below (Slot k) v ok is = rw (← (h.stack.0).slots k v ok is) (word_below s (s.regs 29 + 4 * k) h.words)
+    home_below (Copied r k) v ok is = rw (← (h.stack.0).slots k v ok is) (word_below s (s.regs 29 + 4 * k) h.words)
 
     pub operand_below : (x v : ℕ) → AreFrameHomes top.homes top.count → read_home top.homes registers top.slots x ≡ Some v → v < 2 ^ 32
     operand_below x v ok e =
@@ -312,16 +293,11 @@ module _ {most total : ℕ} {gs : List RGlobal} {starts : ℕ → ℕ} where
         (deferred_source (deferred_at deferred (slice_get top.homes x)) (source (known x) (slice_get top.homes x)))) v
     last_means {known} {fresh} x v ok k f e = go fresh refl
       where
-        other : Source
-        other = deferred_source (deferred_at deferred (slice_get top.homes x)) (source (known x) (slice_get top.homes x))
-
-        t : ℕ
-        t = inner_of (slice_get top.homes x)
-
-        go : (o : Option ℕ) → fresh ≡ o → Denotes top.count s (fresh_source o x t other) v
+        go : (o : Option ℕ) → fresh ≡ o → Denotes top.count s (fresh_source o x (inner_of (slice_get top.homes x))
+            (deferred_source (deferred_at deferred (slice_get top.homes x)) (source (known x) (slice_get top.homes x)))) v
         go None is = (operand_means x v ok k e).0
-        go (Some y) is = cond_both (nat_eq y x) (From (Reg t)) other (λ z. Denotes top.count s z v)
-            (λ same. read_register s.regs t (inner_is (slice_get top.homes x)).low ∙ f.by x v (is ∙ ap Some (eqb-true y x same)) e)
+        go (Some y) is = cond_both (nat_eq y x) (From (Reg _)) _ (λ z. Denotes top.count s z v)
+            (λ same. read_register s.regs _ (inner_is (slice_get top.homes x)).low ∙ f.by x v (is ∙ ap Some (eqb-true y x same)) e)
             (λ _. (operand_means x v ok k e).0)
 
     -- code that writes a home, from a state s0 to another, and what it leaves
@@ -383,7 +359,7 @@ module _ {most total : ℕ} {gs : List RGlobal} {starts : ℕ → ℕ} where
           let lt = ok.by x (Slot j) at in
           record {
             runs = runs_then run (stores_slot st q j v lt here);
-            stands = slot_written st lt below (λ y r c. absurd (has_no_copy ok x y at c));
+            stands = slot_written st lt below (λ y r c. let same = ok.apart x y _ _ at c refl in absurd (cc));
             still_deferred = are_deferred;
             is_known = known_slot x ok at refl said k;
             keeps = record { base = others 30 (omega (arith, high)); others = λ q low _. others q (omega (arith, high, low)) };

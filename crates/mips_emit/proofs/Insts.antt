@@ -97,9 +97,9 @@ into_target hs count x ok = go (slice_get hs x) refl
 
 -- an operand away from the lower registers isn't shown by register 2
 operand_register_apart : (x : Source) → IsAway x → operand_register 1 x ≢ 2
-operand_register_apart (From (Reg r)) away = λ e. absurd (omega (arith, e, away.0))
-operand_register_apart (From (Copied r k)) away = λ e. absurd (omega (arith, e, away.0))
-operand_register_apart _ away = λ e. absurd (omega (arith, e))
+operand_register_apart (From (Slot k)) away = omega arith
+operand_register_apart (From _) away = omega arith
+operand_register_apart _ away = omega arith
 
 -- what an operator with a known word adds
 sums_to : (op : Op) (v w u c : ℕ) → op_result op v w ≡ Some u → addend op w ≡ Some c → u ≡ wrap (v + c)

@@ -2,6 +2,7 @@
 use Rattle.std.proofs.Common.{◌≡◌, ℕ, suc, ◌+◌, ◌-◌, ◌*◌, ◌%◌, ◌^◌, ◌<◌, Bool, true, false, Option, Some, None, refl, sym, ap, ◌∙◌, arith, eqb-true}
 use Rattle.std.specs.Prelude.{if◌then◌else◌}
 use Rattle.std.proofs.Math.Nat.{mul-suc}
+use Rattle.std.proofs.lemmas.Bool.{cond_both}
 use Rattle.std.proofs.lemmas.Nat.{pow_pos}
 use Rattle.std.proofs.lemmas.Option.{same_Some, none-some}
 use Rattle.words.specs.declared.operator.Operator.TheVariants as operators
@@ -24,16 +25,13 @@ pub record IsMultiple (m : ShiftedSum) (v u : ℕ) : Type 0 where
   pub shifts : op_value operators.Sll v (wrap m.amount) ≡ shown
   pub sums : value_of (alu_operator m.op) shown v ≡ Some u
 
-shift_value : (v n : ℕ) → op_value operators.Sll v (wrap (n % 32)) ≡ wrap (v * 2 ^ (n % 32))
-unfolding op_value
-shift_value v n = shifted Sll v n
-
 -- a word shifted, and then an operator on that and the word
 made : (op : AluOp) (d v u : ℕ) → is_power d ≡ true → (0 < d → value_of (alu_operator op) (wrap (v * d)) v ≡ Some u)
     → IsMultiple (record { op = op; amount = exponent d % 32 }) v u
+unfolding op_value
 made op d v u b sums =
     let power : 2 ^ (exponent d % 32) ≡ d = eqb-true (2 ^ (exponent d % 32)) d b in
-    record { shown = wrap (v * 2 ^ (exponent d % 32)); shifts = shift_value v (exponent d); sums = rw power (sums (rw power at (pow_pos (exponent d % 32)))) }
+    record { shown = wrap (v * 2 ^ (exponent d % 32)); shifts = shifted Sll v (exponent d); sums = rw power (sums (rw power at (pow_pos (exponent d % 32)))) }
 
 one_more : (v c u : ℕ) → 0 < c - 1 → wrap (v * c) ≡ u → wrap (wrap (v * (c - 1)) + v) ≡ u
 one_more v c u low is =
@@ -49,42 +47,24 @@ one_less v p c u lv lc e low is =
 
 -- what is multiplied so is the product
 pub multiple_is : (m : ShiftedSum) (c v u : ℕ) → v < 2 ^ 32 → c < 2 ^ 32 → multiple c ≡ Some m → wrap (v * c) ≡ u → IsMultiple m v u
-multiple_is m c v u lv lc is e = by (is_power c) (is_power (c - 1)) (is_power (next_word c)) refl refl is
+multiple_is m c v u lv lc is e = cond_both (is_power c) None _ Given (λ _ is. absurd (none-some m is))
+    (λ _. cond_both (is_power (c - 1)) (Some (record { op = Addu; amount = exponent (c - 1) % 32 })) _ Given
+    (λ b is. rw (← same_Some _ m is) (made Addu (c - 1) v u b (λ low. ap Some (one_more v c u low e))))
+    (λ _. cond_both (is_power (next_word c)) (Some (record { op = Subu; amount = exponent (next_word c) % 32 })) None Given
+    (λ b is. rw (← same_Some _ m is) (made Subu (next_word c) v u b (λ low. ap Some (one_less v (next_word c) c u lv lc refl low e))))
+    (λ _ is. absurd (none-some m is)))) is
   where
-    more : ShiftedSum
-    more = record { op = Addu; amount = exponent (c - 1) % 32 }
-
-    less : ShiftedSum
-    less = record { op = Subu; amount = exponent (next_word c) % 32 }
-
-    by : (a b d : Bool) → is_power (c - 1) ≡ b → is_power (next_word c) ≡ d
-        → (if a then None else if b then Some more else if d then Some less else None) ≡ Some m → IsMultiple m v u
-    by true b d eb ed is = absurd (none-some m is)
-    by false true d eb ed is = rw (← same_Some more m is) (made Addu (c - 1) v u eb (λ low. ap Some (one_more v c u low e)))
-    by false false true eb ed is = rw (← same_Some less m is)
-        (made Subu (next_word c) v u ed (λ low. ap Some (one_less v (next_word c) c u lv lc refl low e)))
-    by false false false eb ed is = absurd (none-some m is)
-
--- it is done for products alone
-is_product : (op : Op) (o : Option ℕ) (m : ShiftedSum) → multiple_of op o ≡ Some m → op ≡ Mul
-is_product Mul o m is = refl
-is_product _ o m is = absurd (none-some m is)
+    Given : Option ShiftedSum → Type 0
+    Given o = o ≡ Some m → IsMultiple m v u
 
 -- of a word and one that is known
 pub multiplied : (op : Op) (o : Option ℕ) (m : ShiftedSum) (v w u : ℕ) → ((c : ℕ) → o ≡ Some c → c ≡ w) → v < 2 ^ 32 → w < 2 ^ 32 → multiple_of op o ≡ Some m
     → op_result op v w ≡ Some u → IsMultiple m v u
-multiplied op o m v w u said lv lw is e =
-    let product : op ≡ Mul = is_product op o m is in
-    by o said (ap (λ op. multiple_of op o) (sym product) ∙ is) (same_Some (wrap (v * w)) u (ap (λ op. op_result op v w) (sym product) ∙ e))
-  where
-    by : (o : Option ℕ) → ((c : ℕ) → o ≡ Some c → c ≡ w) → multiple_of Mul o ≡ Some m → wrap (v * w) ≡ u → IsMultiple m v u
-    by None said is e = absurd (none-some m is)
-    by (Some c) said is e =
-        let same : c ≡ w = said c refl in
-        multiple_is m c v u lv (omega (arith, same, lw)) is (ap (λ c. wrap (v * c)) same ∙ e)
+multiplied Mul (Some c) m v w u said lv lw is e =
+    let same = said c refl in multiple_is m c v u lv (omega (arith, same, lw)) is (rw same (same_Some (wrap (v * w)) u e))
+multiplied _ _ m v w u said lv lw is e = absurd (none-some m is)
 
 pub turned_multiplied : (op : Op) (o : Option ℕ) (m : ShiftedSum) (v w u : ℕ) → ((c : ℕ) → o ≡ Some c → c ≡ v) → v < 2 ^ 32 → w < 2 ^ 32
     → multiple_of op o ≡ Some m → op_result op v w ≡ Some u → IsMultiple m w u
-turned_multiplied op o m v w u said lv lw is e =
-    let product : op ≡ Mul = is_product op o m is in
-    multiplied op o m w v u said lw lv is (symmetric op w v (ap is_symmetric product) ∙ e)
+turned_multiplied Mul o m v w u said lv lw is e = multiplied Mul o m w v u said lw lv is (symmetric Mul w v refl ∙ e)
+turned_multiplied _ o m v w u said lv lw is e = absurd (none-some m is)

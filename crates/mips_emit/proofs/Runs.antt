@@ -51,11 +51,11 @@ module _ (blocks : List BlockParts) (links : ℕ → ℕ) where
       → items blocks links (length is + n) k (is ++ rest) s out ≡ items blocks links n k rest t out
   leads_list k [] rest s t out e n =
       let same : 0 + n ≡ n = omega arith in
-      ap (λ n. items blocks links n k rest s out) same ∙ ap (λ s. items blocks links n k rest s out) (same_Some s t e)
+      rw (same, same_Some s t e)
   leads_list k (i ∷ is) rest s t out e n =
       let one : length (i ∷ is) + n ≡ suc (length is + n) = omega arith in
       let safe = if_some (is_safe (action_of i) s) (run (map action_of is) (state_after (action_of i) s)) t e in
-      ap (λ n. items blocks links n k (i ∷ is ++ rest) s out) one ∙ rw safe.0 (leads_list k is rest (state_after (action_of i) s) t out safe.1 n)
+      rw (one, safe.0) (leads_list k is rest (state_after (action_of i) s) t out safe.1 n)
 
 module _ {blocks : List BlockParts} {links : ℕ → ℕ} where
   pub leads_nowhere : (p : Point) → Leads blocks links 0 p p

@@ -2,7 +2,7 @@
 use Rattle.std.proofs.Common.{◌≡◌, ℕ, ◌+◌, ◌*◌, ◌/◌, ◌%◌, ◌<◌, ◌≤◌, ◌⊎◌, Bool, true, false, ◌&&◌, List, [], ◌∷◌, length, Some, refl, ◌∙◌}
 use Rattle.std.proofs.Common.{arith, eq-eqb, lt-ltb, le-leb, None}
 use Rattle.std.specs.Prelude.{nat_lt, nat_le, slice_get}
-use Rattle.std.proofs.lemmas.Bool.{or_right}
+use Rattle.std.proofs.lemmas.Bool.Decides.{nat_tests}
 use Rattle.words.specs.declared.width.Width.{Width}
 use Rattle.words.specs.declared.width.Width.TheVariants.{Word, Byte}
 use Rattle.runs.specs.Stores.{Places, Arrays, element_at}
@@ -44,21 +44,17 @@ abbrev pub StackHolds : ℕ → (ℕ → ℕ) → ℕ → List Stored → Type 0
 StackHolds most m at [] = at ≡ stack_end
 StackHolds most m at (f ∷ fs) = FrameHolds most m at f × StackHolds most m (at + size_of f) fs
 
-frame_same : (most : ℕ) (m m' : ℕ → ℕ) (at : ℕ) (f : Stored) → ((b : ℕ) → at ≤ b → m' b ≡ m b) → FrameHolds most m at f → FrameHolds most m' at f
-frame_same most m m' at f same h = record {
-  slots = λ k v low is. same (at + 4 * k) (omega arith) ∙ h.slots k v low is;
-  aside = λ j r v there is. same (at + 4 * (f.count + j)) (omega arith) ∙ h.aside j r v there is;
-  link = λ calls. same (at + 4 * (f.count + length f.saved)) (omega arith) ∙ h.link calls;
-  fits = h.fits;
-  alone = h.alone;
-}
-
 pub stack_same : (most : ℕ) (m m' : ℕ → ℕ) (at : ℕ) (fs : List Stored) → ((b : ℕ) → at ≤ b → m' b ≡ m b) → StackHolds most m at fs → StackHolds most m' at fs
 stack_same most m m' at [] same h = h
 stack_same most m m' at (f ∷ fs) same h = (
-  frame_same most m m' at f same h.0,
-  stack_same most m m' (at + size_of f) fs
-      (λ b le. same b (omega (arith, le))) h.1,
+  record {
+    slots = λ k v low is. same (at + 4 * k) (omega arith) ∙ (h.0).slots k v low is;
+    aside = λ j r v there is. same (at + 4 * (f.count + j)) (omega arith) ∙ (h.0).aside j r v there is;
+    link = λ calls. same (at + 4 * (f.count + length f.saved)) (omega arith) ∙ (h.0).link calls;
+    fits = (h.0).fits;
+    alone = (h.0).alone;
+  },
+  stack_same most m m' (at + size_of f) fs (λ b le. same b (omega (arith, le))) h.1,
 )
 
 pub stack_top : (most : ℕ) (m : ℕ → ℕ) (at : ℕ) (fs : List Stored) → StackHolds most m at fs → at ≤ stack_end
@@ -124,20 +120,12 @@ pub record Stands (most total : ℕ) (gs : List RGlobal) (starts : ℕ → ℕ) 
 
 -- an address in the stack
 pub open_stack : (total a : ℕ) → a % 4 ≡ 0 → stack_base ≤ a → a < stack_end → is_open Word (is_mapped total) a ≡ true
-open_stack total a aligned low high = cc (
-  eq-eqb (a % 4) 0 aligned,
-  le-leb stack_base a low,
-  lt-ltb a stack_end high,
-  or_right (nat_le data_base a && nat_lt a (data_base + 4 * ((total + 3) / 4))) (true && true) refl,
-)
+open_stack total a aligned low high = grind (arith, nat_tests)
 
 -- an element of data
 pub element_aligned : (w : Width) (start i : ℕ) → start % 4 ≡ 0 → is_aligned w (address_of_place (element_place w start i)) ≡ true
-element_aligned Word start i even = eq-eqb ((data_base + (start + 4 * i)) % 4) 0 (omega (arith, even))
+element_aligned Word start i even = grind (arith, nat_tests)
 element_aligned Byte start i even = refl
 
 pub open_data : (w : Width) (total p : ℕ) → is_aligned w (address_of_place p) ≡ true → p < total → is_open w (is_mapped total) (address_of_place p) ≡ true
-open_data w total p aligned lt =
-    let low : data_base ≤ data_base + p = omega arith in
-    let high : data_base + p < data_base + 4 * ((total + 3) / 4) = omega (arith, lt) in
-    cc (le-leb data_base (data_base + p) low, lt-ltb (data_base + p) (data_base + 4 * ((total + 3) / 4)) high)
+open_data w total p aligned lt = grind (arith, nat_tests)

@@ -1,7 +1,6 @@
-use Rattle.std.proofs.Common.{sym, ap, ◌++◌, ◌∙◌, arith, append_assoc}
-use Rattle.std.proofs.lemmas.List.{append-nil, at_drop_all}
+use Rattle.std.proofs.Common.{arith, append_assoc}
+use Rattle.std.proofs.lemmas.List.{append-nil, drop_all}
 use Rattle.mips_emit.specs.Locations.{facts_of, locations}
-use Rattle.mips_emit.specs.Code.{arguments_code}
 use Rattle.mips_emit.proofs.Emitted.{arguments_next}
 use Rattle.mips_emit.proofs.Prefixes.{prefix_behind, prefix_before, at_prefix}
 use Rattle.mips_emit.proofs.exit.emit_arguments.Goals as goal
@@ -23,6 +22,4 @@ loop-x-preserved c =
     )
 
 pub returns : goal.returns
-returns c =
-    sym (ap (λ l. c.loop-x.code.items ++ l) (at_drop_all (arguments_code (locations c.args.frame.now) (facts_of c.args.facts.now) c.loop-x.t)
-    c.args.arguments.now c.loop-x.x-index c.loop-x-test.false) ∙ append-nil c.loop-x.code.items) ∙ c.loop-x.invariant.1
+returns c = rw (drop_all c.loop-x.x-index c.args.arguments.now c.loop-x-test.false, append-nil) at c.loop-x.invariant.1
