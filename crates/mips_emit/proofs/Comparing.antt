@@ -1,7 +1,7 @@
 -- A comparison that is one with the branch on its result does what the comparison does.
-use Rattle.std.proofs.Common.{◌≡◌, ℕ, ◌^◌, ◌<◌, ◌≤◌, ◌==◌, Bool, true, false, List, [], ◌∷◌, ◌++◌, length, Option, Some, None, refl, sym, ap, ap₂, ◌∙◌}
-use Rattle.std.proofs.Common.{subst, arith, nat_eq, eq-eqb, eqb-true, true≢false}
-use Rattle.std.specs.Prelude.{◌&&◌, not, if◌then◌else◌, slice_get}
+use Rattle.std.proofs.Common.{◌≡◌, ℕ, ◌^◌, ◌<◌, ◌≤◌, ◌==◌, Bool, true, false, List, [], ◌∷◌, ◌++◌, length, Option, Some, None, refl, sym, ap, ap₂, ◌∙◌, subst}
+use Rattle.std.proofs.Common.{arith, nat_eq, eq-eqb, eqb-true, true≢false}
+use Rattle.std.specs.Prelude.{◌&&◌, not, slice_get}
 use Rattle.std.proofs.lemmas.Int.{ints}
 use Rattle.std.proofs.lemmas.Bool.Decides.{nat_tests}
 use Rattle.std.proofs.lemmas.Option.{same_Some, none-some}
@@ -28,22 +28,23 @@ use Rattle.mips_homes.specs.HomedRun.{cells, is_callee_saved, Run, Failed, with_
 use Rattle.mips_homes.specs.declared.homed.Home.{Home}
 use Rattle.mips_homes.specs.declared.homed.Home.TheVariants.{Reg}
 use Rattle.mips_emit.specs.declared.location.Source.{Source}
+use Rattle.mips_emit.specs.declared.operation.Operand.{Operand}
 use Rattle.mips_emit.specs.declared.comparison.Form.{Form}
 use Rattle.mips_emit.specs.declared.comparison.Form.TheVariants.{Known, OnPair, OnLeft, OnRight, ByResult, ByOpposite, InResult}
 use Rattle.mips_emit.specs.declared.comparison.Asked.{Asked}
 use Rattle.mips_emit.specs.declared.comparison.Asked.TheVariants.{Nothing, Branched, Returned}
 use Rattle.mips_emit.specs.declared.comparison.Comparison.{Comparison}
 use Rattle.mips_emit.specs.Frames.{AreFrameHomes}
-use Rattle.mips_emit.specs.Locations.{Locations, Facts, known_in, operand}
-use Rattle.mips_emit.specs.Code.{known_operand, operand_with, nop, fetch, operand_register, op_code}
-use Rattle.mips_emit.specs.Comparisons.{is_known_zero, is_immediate, opposite_if, form_of, truth_of, known_truth, form_with, opposite_op, code_by_form, comparison_code, is_asked, is_caller_saved}
-use Rattle.mips_emit.specs.Comparisons.{form_for, operator_comparison, comparison_of, last_with, is_result, returned}
+use Rattle.mips_emit.specs.Locations.{Locations, Facts, known_in}
+use Rattle.mips_emit.specs.Code.{known_operand, operand_with, nop, fetch, operand_register}
+use Rattle.mips_emit.specs.Comparisons.{is_known_zero, is_immediate, opposite_if, form_of, truth_of, known_truth, form_with, opposite_op, code_by_form}
+use Rattle.mips_emit.specs.Comparisons.{comparison_code, is_asked, is_caller_saved, form_for, operator_comparison, comparison_of, last_with, is_result}
+use Rattle.mips_emit.specs.Comparisons.{returned}
 use Rattle.mips_emit.proofs.Runs.{RunsTo, if_some, runs_then}
-use Rattle.mips_emit.proofs.View.{IsTarget, t2, read_register}
+use Rattle.mips_emit.proofs.View.{t2}
 use Rattle.mips_emit.proofs.Stands.{Stored, Stands}
-use Rattle.mips_emit.proofs.Operands.{passes, IsLast, none_fresh, IsKnown, Denotes, IsAway, operand_register_kept, longer_behind, runs_nop, hide}
-use Rattle.mips_emit.proofs.Operands.{AreDeferred, defers}
-use Rattle.mips_emit.proofs.Homes.{fewer_stand, operand_below, operand_means, fetches, ends_stands}
+use Rattle.mips_emit.proofs.Operands.{passes, IsLast, none_fresh, IsKnown, operand_register_kept, longer_behind, runs_nop, hide, AreDeferred, defers}
+use Rattle.mips_emit.proofs.Homes.{fewer_stand, fetches, ends_stands}
 use Rattle.mips_emit.proofs.Insts.{Computed, value_or_failed, IsOperand, computes, operand_is}
 
 -- ---- truth words
@@ -71,21 +72,21 @@ known_zero (Some c) v said is = sym (said c refl) ∙ eqb-true c 0 is
 abbrev comparison_at : Locations → Facts → Op → (d a b : ℕ) → Form → Comparison
 comparison_at at facts op d a b form = record { result = d; op = op; form = form; left = operand_with at facts a; right = operand_with at facts b }
 
+comparison_is : (d : ℕ) (op : Op) (l r : Operand) (o : Option Form) (m : Comparison) → operator_comparison d op l r o ≡ Some m
+    → (o ≡ Some m.form) × (operator_comparison d op l r (Some m.form) ≡ Some m)
+comparison_is d op l r None m e = absurd (none-some m e)
+comparison_is d op l r (Some form) m e = rw (same_Some m _ (sym e)) (refl, refl)
+
 -- an operator that is one with an exit is what the exit asks for, in the form that it has there
-operator_asked : (at : Locations) (facts : Facts) (asked : Asked) (op : Op) (d a b : ℕ) (m : Comparison) → comparison_of at facts asked (Bin op d a b) ≡ Some m
+operator_asked : (at : Locations) (facts : Facts) (asked : Asked) (op : Op) (d a b : ℕ) (m : Comparison)
+    → comparison_of at facts asked (Bin op d a b) ≡ Some m
     → (is_asked asked d ≡ true) × (is_caller_saved (at d) ≡ true) × (form_for asked op (known_in facts a) (known_in facts b) ≡ Some m.form)
     × (comparison_at at facts op d a b m.form ≡ m)
 operator_asked at facts asked op d a b m e =
     let there = if_some (is_asked asked d && is_caller_saved (at d)) _ m e in
     let parts = and_parts (is_asked asked d) (is_caller_saved (at d)) there.0 in
-    by parts.0 parts.1 (form_for asked op (known_in facts a) (known_in facts b)) refl there.1
-  where
-    by : is_asked asked d ≡ true → is_caller_saved (at d) ≡ true → (o : Option Form) → form_for asked op (known_in facts a) (known_in facts b) ≡ o
-        → operator_comparison d op (operand_with at facts a) (operand_with at facts b) o ≡ Some m
-        → (is_asked asked d ≡ true) × (is_caller_saved (at d) ≡ true) × (form_for asked op (known_in facts a) (known_in facts b) ≡ Some m.form)
-        × (comparison_at at facts op d a b m.form ≡ m)
-    by t saved None is e = absurd (none-some m e)
-    by t saved (Some form) is e = rw (same_Some m _ (sym e)) (t, saved, is, refl)
+    let is = comparison_is d op (operand_with at facts a) (operand_with at facts b) (form_for asked op (known_in facts a) (known_in facts b)) m there.1 in
+    (parts.0, parts.1, is.0, same_Some _ m is.1)
 
 asked_for : (at : Locations) (facts : Facts) (asked : Asked) (i : RInst) (m : Comparison) → comparison_of at facts asked i ≡ Some m
     → (is_asked asked m.result ≡ true) × (form_for asked m.op m.left.known m.right.known ≡ Some m.form)

@@ -1,6 +1,5 @@
 -- Elements of globals, and their places in data.
-use Rattle.std.proofs.Common.{◌≡◌, ◌≢◌, ℕ, zero, suc, ◌+◌, ◌*◌, ◌%◌, ◌^◌, ◌<◌, ◌≤◌, ◌⊎◌, inl, inr, ⊎_elim, Bool, true, false, cond, ◌&&◌, ◌==◌, List, []}
-use Rattle.std.proofs.Common.{◌∷◌, Option, Some, None, refl, sym, ap, ap₂, ◌∙◌, arith, ne_eqb}
+use Rattle.std.proofs.Common.{◌≡◌, ◌≢◌, ℕ, zero, suc, ◌+◌, ◌^◌, ◌<◌, ◌≤◌, ◌⊎◌, inl, inr, ⊎_elim, Bool, true, List, [], ◌∷◌, Some, refl, sym, ap, ◌∙◌, arith}
 use Rattle.std.specs.Prelude.{slice_get, slice_set}
 use Rattle.std.proofs.lemmas.Bool.{cases_eq}
 use Rattle.std.proofs.lemmas.Bool.Decides.{nat_tests}
@@ -15,8 +14,8 @@ use Rattle.mips_isa.specs.Starting.{data_base, stack_base}
 use Rattle.mblock.specs.declared.limits.TheConstants.{UNIT_BYTES}
 use Rattle.rtl.specs.declared.block.RGlobal.{RGlobal}
 use Rattle.rtl.specs.Meaning.{kept_in}
-use Rattle.mips_emit.specs.Elements.{width_of, width_in, width_bytes, place_in, place_behind, address_of_place}
-use Rattle.mips_emit.proofs.View.{word_at, shown_at, set_at, shown_here, shown_other, word_other, set_at_words}
+use Rattle.mips_emit.specs.Elements.{width_of, width_bytes, place_in, address_of_place}
+use Rattle.mips_emit.proofs.View.{word_at, set_at, shown_here, shown_other, word_other, set_at_words}
 use Rattle.mips_emit.proofs.Stands.{Stored, stack_same, width_some, Stands, element_aligned, open_data}
 
 -- what a store keeps

@@ -1,8 +1,8 @@
 -- Homes are read and written.
-use Rattle.std.proofs.Common.{◌≡◌, ◌≢◌, ℕ, ◌+◌, ◌*◌, ◌^◌, ◌<◌, ◌≤◌, Bool, true, false, true≢false, List, [], ◌∷◌, ◌++◌, map, length}
-use Rattle.std.proofs.Common.{Option, Some, None, refl, sym, ap, ◌∙◌, arith, eq-eqb, ne_eqb, eqb-true, nat_eq}
+use Rattle.std.proofs.Common.{◌≡◌, ◌≢◌, ℕ, ◌+◌, ◌*◌, ◌^◌, ◌<◌, ◌≤◌, Bool, true, false, true≢false, List, [], ◌∷◌, ◌++◌, map, length, Option, Some, None, refl}
+use Rattle.std.proofs.Common.{sym, ap, ◌∙◌, arith, eq-eqb, ne_eqb, eqb-true, nat_eq}
 use Rattle.std.specs.Prelude.{if◌then◌else◌, slice_get}
-use Rattle.std.proofs.lemmas.Bool.{eqb-false, cond_both}
+use Rattle.std.proofs.lemmas.Bool.{cond_both}
 use Rattle.std.proofs.lemmas.Bool.Decides.{nat_tests}
 use Rattle.std.proofs.lemmas.Option.{same_Some, none-some}
 use Rattle.words.specs.declared.width.Width.TheVariants as widths
@@ -26,8 +26,8 @@ use Rattle.mips_emit.proofs.Runs.{RunsTo, runs_none, runs_then}
 use Rattle.mips_emit.proofs.View.{word_at, shown_at, set_word, shown_other, word_here, word_other, word_below, set_at_words, IsTarget, inner_is, read_register}
 use Rattle.mips_emit.proofs.View.{moves, loads_word, stores_word, Sets, set_sets, li_sets}
 use Rattle.mips_emit.proofs.Stands.{Stored, size_of, with_slots, stack_same, stack_top, LeafHolds, Linked, linked_kept, Stands, open_stack}
-use Rattle.mips_emit.proofs.Operands.{IsKnown, nothing_known, hide, AreDeferred, none_deferred, defers, known_register, known_slot}
-use Rattle.mips_emit.proofs.Operands.{IsFresh, none_fresh, stack_apart, Denotes, IsAway, longer, longer_behind, bring_some, Keeps, Holds, Ends, runs_nop}
+use Rattle.mips_emit.proofs.Operands.{IsKnown, nothing_known, hide, AreDeferred, none_deferred, defers, known_register, known_slot, IsFresh, none_fresh}
+use Rattle.mips_emit.proofs.Operands.{stack_apart, Denotes, IsAway, longer, longer_behind, bring_some, Keeps, Holds, Ends, runs_nop}
 
 -- a step that goes wrong where there is no home, and else goes on with what holds of the home
 at_home : (P : Run → Type 0) (G : Option Home → Type 0) (o : Option Home) (out : List ℕ) (go : Home → Run) → P (Failed out)
@@ -390,11 +390,12 @@ module _ {most total : ℕ} {gs : List RGlobal} {starts : ℕ → ℕ} where
       -- a result, computed into the register for its home
       module _ (P : Run → Type 0) (go : Places → Places → Run) (is : List Plain) (s0 : State) (some : 1 ≤ length is) where
         abbrev Finished : Option Home → Type 0
-        Finished l = Ends is s0 s (into l) v × ((registers' slots' : Places) (to : State) → 1 ≤ length (is ++ finish l)
+        Finished l = (registers' slots' : Places) (to : State) → 1 ≤ length (is ++ finish l)
             → Written (is ++ finish l) s0 (places_with known x o) l (deferred_none l deferred) registers' slots' to
-            → Holds l to.regs v → IsFresh (in_slot l x) top.homes registers' slots' to → P (go registers' slots'))
+            → Holds l to.regs v → IsFresh (in_slot l x) top.homes registers' slots' to → P (go registers' slots')
 
-        finishes_at : (l : Home) → slice_get top.homes x ≡ Some l → Finished (Some l) → P (write_at l registers top.slots v go)
+        finishes_at : (l : Home) → slice_get top.homes x ≡ Some l → Ends is s0 s (into (Some l)) v × Finished (Some l)
+            → P (write_at l registers top.slots v go)
         finishes_at (Reg r) at f =
             let e = f.0 in
             f.1 (places_with registers r (Some v)) top.slots (record s { regs = e.regs }) (longer is _ some)
@@ -413,8 +414,10 @@ module _ {most total : ℕ} {gs : List RGlobal} {starts : ℕ → ℕ} where
                 → e.regs (inner_of (slice_get top.homes c)) ≡ w
             fresh e c w same there = rw (← same, at) (e.here ∙ same_Some v w (rw (← same, at, eq-eqb j j refl) at there))
 
-        pub finishes : (out : List ℕ) → P (Failed out) → Finished (slice_get top.homes x) → P (write_home (cells top.homes registers top.slots) x v out go)
-        finishes out failed f = at_home P Finished (slice_get top.homes x) out (λ h. write_at h registers top.slots v go) failed finishes_at f
+        pub finishes : (out : List ℕ) → P (Failed out) → Ends is s0 s (into (slice_get top.homes x)) v → Finished (slice_get top.homes x)
+            → P (write_home (cells top.homes registers top.slots) x v out go)
+        finishes out failed e f = at_home P (λ l. Ends is s0 s (into l) v × Finished l) (slice_get top.homes x) out
+            (λ h. write_at h registers top.slots v go) failed finishes_at (e, f)
 
     -- a constant, which needn't be put into a caller-saved register yet
     module _ (x v : ℕ) {known : Places} (below : v < 2 ^ 32) (ok : AreFrameHomes top.homes top.count) (k : IsKnown known top.homes registers top.slots)

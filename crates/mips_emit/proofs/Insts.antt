@@ -1,10 +1,9 @@
 -- Each instruction's code does what the instruction does.
-use Rattle.std.proofs.Common.{◌≡◌, ◌≢◌, ℕ, ℤ, zero, suc, ◌+◌, ◌^◌, ◌*◌, ◌<◌, ◌≤◌, Bool, true, false, true≢false, List, [], ◌∷◌, ◌++◌, take, map}
-use Rattle.std.proofs.Common.{length, Option, Some, None, refl, sym, ap, ◌∙◌, subst, arith, ap₂, nat_eq, ltb-true, eqb-true}
-use Rattle.std.specs.Prelude.{◌-◌, if◌then◌else◌, slice_get, nat_lt}
+use Rattle.std.proofs.Common.{◌≡◌, ◌≢◌, ℕ, zero, suc, ◌+◌, ◌^◌, ◌*◌, ◌<◌, ◌≤◌, true, true≢false, List, [], ◌∷◌, ◌++◌, take, map, length, Option, Some, None}
+use Rattle.std.proofs.Common.{refl, sym, ap, ◌∙◌, subst, arith, nat_eq, ltb-true}
+use Rattle.std.specs.Prelude.{◌-◌, slice_get, nat_lt}
 use Rattle.std.proofs.lemmas.Option.{same_Some, none-some, cond_some}
 use Rattle.words.specs.declared.operator.Operator.TheVariants as operators
-use Rattle.words.specs.declared.width.Width.{Width}
 use Rattle.words.specs.declared.width.Width.TheVariants as widths
 use Rattle.words.specs.Words.{wrap}
 use Rattle.words.specs.Operators.{op_value}
@@ -13,7 +12,7 @@ use Rattle.mips_isa.specs.declared.inst.Plain.{Plain}
 use Rattle.mips_isa.specs.declared.inst.LogicOp.TheVariants.{Xori}
 use Rattle.mips_isa.specs.declared.inst.ShiftOp.TheVariants.{Sll}
 use Rattle.mips_isa.specs.declared.inst.Plain.TheVariants.{Logic, Shift}
-use Rattle.mips_isa.specs.States.{State, is_open, read, put}
+use Rattle.mips_isa.specs.States.{State, is_open, read}
 use Rattle.mips_isa.specs.Actions.{action_of}
 use Rattle.mblock.specs.declared.limits.TheConstants.{UNIT_BYTES}
 use Rattle.mblock.proofs.StateWords.{run_words}
@@ -40,19 +39,20 @@ use Rattle.mips_emit.specs.declared.element.Reach.TheVariants.{ByPointer, ByScra
 use Rattle.mips_emit.specs.declared.offset.Offset.{Offset}
 use Rattle.mips_emit.specs.Offsets.{addend, offset_from, sum_offset, or_offset, offset_past, offset_in, index_with}
 use Rattle.rtl.specs.declared.operator.Op.TheVariants.{Add, Sub}
-use Rattle.std.proofs.lemmas.Bool.{eqb-false, and_parts, cond_both}
+use Rattle.std.proofs.lemmas.Bool.{eqb-false, cond_both}
 use Rattle.std.proofs.lemmas.Bool.Decides.{nat_tests}
-use Rattle.mips_emit.specs.Elements.{width_of, width_bytes, direct, element_place, place_in, address_of_place, near, base_code}
-use Rattle.mips_emit.specs.Elements.{base_offset, base_word, shares_base, base_index, shifted_offset, reach_by, element_base, element_offset}
-use Rattle.mips_emit.specs.Code.{fetch, operand_register, into, operation, immediate_of, is_symmetric, turned_immediate_of, turned_less_of, code_by_less, code_by_left}
-use Rattle.mips_emit.specs.Code.{known_operand, multiple_of, multiple_code, code_by_multiple, code_by_word}
-use Rattle.mips_emit.specs.Code.{code_by_right, op_code, holds_base, reach_with, reach_of, element_code, element_store, inst_code}
+use Rattle.mips_emit.specs.Elements.{width_of, width_bytes, direct, element_place, place_in, address_of_place, near, base_code, base_word, base_index}
+use Rattle.mips_emit.specs.Elements.{shifted_offset, reach_by, element_base, element_offset}
+use Rattle.mips_emit.specs.Code.{fetch, operand_register, into, immediate_of, is_symmetric, turned_immediate_of, turned_less_of, code_by_less, code_by_left}
+use Rattle.mips_emit.specs.Code.{known_operand, multiple_of, multiple_code, code_by_multiple, code_by_word, code_by_right, op_code, holds_base, reach_with}
+use Rattle.mips_emit.specs.Code.{reach_of, element_code, element_store, inst_code}
 use Rattle.mips_emit.proofs.Runs.{RunsTo, if_some, runs_none, runs_then}
-use Rattle.mips_emit.proofs.View.{shown_at, word_of_offset, shown_below, set, set_at, Sets, set_sets, read_register, put_here, put_other, IsTarget, t2, IsInner, inner_is, loads_at, stores_at, near_word, read_other, Based, based, from_base, from_shifted}
+use Rattle.mips_emit.proofs.View.{shown_at, word_of_offset, shown_below, set_at, Sets, set_sets, read_register, IsTarget, t2, IsInner, inner_is, loads_at}
+use Rattle.mips_emit.proofs.View.{stores_at, near_word, read_other, Based, based, from_base, from_shifted}
 use Rattle.mips_emit.proofs.Stands.{Stored, with_slots, Stands, width_some}
-use Rattle.mips_emit.proofs.Operands.{IsFresh, IsLast, none_last, IsKnown, Denotes, IsAway, operand_register_kept, longer_behind}
-use Rattle.mips_emit.proofs.Operands.{Ends, hide, AreDeferred, Keeps, Holds, IsKept, IsOffset, AreBases, IsIndex, of_index, sum_same, kept_same, offset_same}
-use Rattle.mips_emit.proofs.Operands.{offset_written, bases_written, index_is}
+use Rattle.mips_emit.proofs.Operands.{IsFresh, IsLast, none_last, IsKnown, Denotes, IsAway, operand_register_kept, longer_behind, Ends, hide, AreDeferred}
+use Rattle.mips_emit.proofs.Operands.{Keeps, Holds, IsKept, IsOffset, AreBases, IsIndex, of_index, sum_same, kept_same, offset_same, offset_written}
+use Rattle.mips_emit.proofs.Operands.{bases_written, index_is}
 use Rattle.mips_emit.proofs.Homes.{operand_below, operand_means, fetches, sets_kept, run_kept, finishes, puts, tells, stands_with}
 use Rattle.mips_emit.proofs.Globals.{kept_is, data_open, data_written, stored_at}
 use Rattle.mips_emit.proofs.Operations.{Gives, alu_gives, operation_gives, immediate_gives, less_gives, symmetric}
@@ -77,15 +77,6 @@ pub value_or_failed : {A : Type 0} (P : Run → Type 0) (o : Option A) (out : Li
     → P (with_value o out go)
 value_or_failed P None out go failed f = failed
 value_or_failed P (Some v) out go failed f = f v refl
-
-ends_set : {is : List Plain} {s m : State} {d v w : ℕ} → IsTarget d → RunsTo is s (set m d v) → v ≡ w → w < 2 ^ 32 → Ends is s m d w
-ends_set {m} {d} {v} ok run e lt = record {
-  regs = put m.regs d v;
-  runs = run;
-  here = put_here m.regs d v ok ∙ e;
-  others = λ r ne. put_other m.regs d v r ne;
-  below = lt;
-}
 
 into_target : (hs : List Home) (count x : ℕ) → AreFrameHomes hs count → IsTarget (into (slice_get hs x))
 into_target hs count x ok = go (slice_get hs x) refl
@@ -396,14 +387,12 @@ module _ {most total : ℕ} {gs : List RGlobal} {starts : ℕ → ℕ} where
         let y = operand_is facts h lz ok k b w ew in
         let z = computes h op (inner_of (at d)) (into (at d)) u (inner_is (at d)) (into_target top.homes top.count d ok) x y eu in
         let before : AreBases gs starts facts (z.to).regs = (kept_same z.others kp.0, offset_same (λ q up _. z.others q up) kp.1) in
-        finishes z.stands lz d u {o = None} (z.ends).below (λ c e. absurd (none-some c e)) ok k P (λ r s. go r s g) _ s z.some out failed (
-          z.ends,
-          λ r' s' to some p held new. f r' s' g to some p.runs p.stands p.still_deferred (
-            (bases_written p.keeps before).0,
-            sum_known op v w u top.count s (z.to).regs to.regs facts.offset eu before.1 z.others (at d) (known_in facts b)
-                (operand at facts a) (λ t e. ok.by d (Reg t) e) x.away (x.means s h) y.said p.keeps held,
-          ) (fact_known facts d None p.is_known) (only_fresh new),
-        ))))
+        let offset = λ (to : State) (p : Keeps (at d) (z.to).regs to.regs) (held : Holds (at d) to.regs u).
+        sum_known op v w u top.count s (z.to).regs to.regs facts.offset eu before.1 z.others (at d) (known_in facts b) (operand at facts a)
+        (λ t e. ok.by d (Reg t) e) x.away (x.means s h) y.said p held in
+        finishes z.stands lz d u {o = None} (z.ends).below (λ c e. absurd (none-some c e)) ok k P (λ r s. go r s g) _ s z.some out failed z.ends
+        (λ r' s' to some p held new. f r' s' g to some p.runs p.stands p.still_deferred ((bases_written p.keeps before).0, offset to p.keeps held)
+        (fact_known facts d None p.is_known) (only_fresh new)))))
     performs (Load d a i) facts registers top s go ok k lz kp h f =
         value_or_failed P (read_home top.homes registers top.slots i) out _ failed (λ v ev.
         value_or_failed P (element_at g a v) out _ failed (λ w there.
@@ -413,13 +402,13 @@ module _ {most total : ℕ} {gs : List RGlobal} {starts : ℕ → ℕ} where
         let at = address_of_place (place_in gs starts a v) in
         let load = loads_at width p.to (into (slice_get top.homes d)) (element_base o) (element_offset width (starts a) o) at p.here p.ok in
         let value : shown_at width p.to at ≡ w = (p.stands).elements a v w there in
-        let e = ends_set (into_target top.homes top.count d ok) (runs_then p.runs load) value (rw (← value) (shown_below width p.to at (p.stands).words)) in
-        finishes p.stands lz d w {o = None} e.below (λ w e. absurd (none-some w e)) ok k P (λ r s. go r s g) _ s
-        (longer_behind (element_code width (starts a) o (operand (slice_get top.homes) facts i)) _ (omega arith)) out failed (
-          e,
-          λ r' s' to some z held new. f r' s' g to some z.runs z.stands z.still_deferred (bases_written z.keeps p.bases) (fact_known facts d None z.is_known)
-              (only_fresh new),
-        )))
+        let c = set_sets (into_target top.homes top.count d ok) value load in
+        let below : w < 2 ^ 32 = rw (← value) (shown_below width p.to at (p.stands).words) in
+        finishes p.stands lz d w {o = None} below (λ w e. absurd (none-some w e)) ok k P (λ r s. go r s g) _ s
+        (longer_behind (element_code width (starts a) o (operand (slice_get top.homes) facts i)) _ (omega arith)) out failed
+        (record { regs = c.regs; runs = runs_then p.runs c.runs; here = c.here; others = c.others; below = below })
+        (λ r' s' to some z held new. f r' s' g to some z.runs z.stands z.still_deferred (bases_written z.keeps p.bases) (fact_known facts d None z.is_known)
+        (only_fresh new))))
     performs (Store a i b) facts registers top s go ok k lz kp h f =
         value_or_failed P (read_home top.homes registers top.slots i) out _ failed (λ v ev.
         value_or_failed P (read_home top.homes registers top.slots b) out _ failed (λ w ew.

@@ -1,10 +1,10 @@
 -- What pseudo-registers are known to hold, and what operands mean in a state.
-use Rattle.std.proofs.Common.{◌≡◌, ◌≢◌, ℕ, ◌+◌, ◌*◌, ◌^◌, ◌<◌, ◌≤◌, Bool, true, false, List, [], ◌∷◌, ◌++◌, length, length-append}
-use Rattle.std.proofs.Common.{Option, Some, None, refl, sym, ap, ◌∙◌, arith, eqb-true, nat_eq}
+use Rattle.std.proofs.Common.{◌≡◌, ◌≢◌, ℕ, ◌+◌, ◌*◌, ◌^◌, ◌<◌, ◌≤◌, Bool, true, false, List, [], ◌∷◌, ◌++◌, length, length-append, Option, Some, None, refl}
+use Rattle.std.proofs.Common.{sym, ap, ◌∙◌, arith, eqb-true, nat_eq}
 use Rattle.std.specs.Prelude.{not, slice_get}
-use Rattle.std.proofs.lemmas.Bool.{eqb-false, or_parts, cond_both}
+use Rattle.std.proofs.lemmas.Bool.{cond_both}
 use Rattle.std.proofs.lemmas.Bool.Decides.{nat_tests}
-use Rattle.std.proofs.lemmas.Option.{same_Some, none-some}
+use Rattle.std.proofs.lemmas.Option.{none-some}
 use Rattle.words.specs.declared.width.Width.{Width}
 use Rattle.words.specs.declared.width.Width.TheVariants as widths
 use Rattle.runs.specs.Stores.{Places, places_with}
@@ -33,7 +33,7 @@ use Rattle.mips_emit.specs.Locations.{Facts, known_in, no_facts, kept_past, Fits
 use Rattle.words.specs.Words.{wrap}
 use Rattle.mips_emit.specs.Elements.{width_bytes, width_of, base_word, fits_offset, base_index, address_of_place}
 use Rattle.mips_emit.specs.declared.offset.Offset.{Offset}
-use Rattle.mips_emit.specs.Offsets.{no_offset, touches, without, past, offset_past, offset_in}
+use Rattle.mips_emit.specs.Offsets.{no_offset, without, past, offset_past, offset_in}
 use Rattle.mips_emit.specs.Code.{nop, operand_register, bring}
 use Rattle.mips_emit.proofs.Runs.{RunsTo}
 use Rattle.mips_emit.proofs.View.{word_at, read_other}

@@ -1,7 +1,7 @@
 -- The code of operators leaves their results.
-use Rattle.std.proofs.Common.{◌≡◌, ◌≢◌, ℕ, pos, ◌+◌, ◌-◌, ◌*◌, ◌/◌, ◌%◌, ◌^◌, ◌<◌, ◌≤◌, ◌==◌, Bool, true, false, List, [], ◌∷◌, length}
-use Rattle.std.proofs.Common.{Option, Some, None, refl, sym, ap, ap₂, ◌∙◌, subst, arith, nat_eq, nat_lt, ltb-true, eqb-true, true≢false, ◌++◌, take, drop}
-use Rattle.std.specs.Prelude.{bit_and, if◌then◌else◌, not, int_lt, bit_xor}
+use Rattle.std.proofs.Common.{◌≡◌, ◌≢◌, ℕ, pos, ◌+◌, ◌-◌, ◌*◌, ◌/◌, ◌%◌, ◌^◌, ◌<◌, ◌≤◌, ◌==◌, Bool, true, false, List, [], ◌∷◌, length, Option, Some, None}
+use Rattle.std.proofs.Common.{refl, sym, ap, ap₂, ◌∙◌, subst, arith, nat_eq, nat_lt, ltb-true, eqb-true, true≢false, ◌++◌, take, drop}
+use Rattle.std.specs.Prelude.{bit_and, if◌then◌else◌, not, int_lt}
 use Rattle.std.proofs.lemmas.Bool.{eqb-false, cond_both}
 use Rattle.std.proofs.lemmas.Bool.Decides.{nat_tests}
 use Rattle.std.proofs.lemmas.Nat.{and_comm, or_comm, xor_comm, and_mask}
@@ -33,8 +33,8 @@ use Rattle.rtl.specs.declared.operator.Op.TheVariants.{Add, Sub, Mul, DivS, DivU
 use Rattle.rtl.specs.Operators.{truth_word, op_result}
 use Rattle.rtl.proofs.Computing.{complement-is}
 use Rattle.std.proofs.lemmas.List.{take-append-drop}
-use Rattle.mips_emit.specs.Code.{one_or_two, as_list}
-use Rattle.mips_emit.specs.Code.{is_small, half, operation, opposite, next_word, exponent, is_power, immediate, is_symmetric, turned_less_of}
+use Rattle.mips_emit.specs.Code.{one_or_two, as_list, is_small, half, operation, opposite, next_word, exponent, is_power, immediate, is_symmetric}
+use Rattle.mips_emit.specs.Code.{turned_less_of}
 use Rattle.mips_emit.proofs.Runs.{RunsTo, if_some, runs_then}
 use Rattle.mips_emit.proofs.View.{set, IsTarget, put_here, put_other, read_register, alu_runs, imm_runs}
 

@@ -1,6 +1,5 @@
 -- Products by one more or one less than a power of 2.
-use Rattle.std.proofs.Common.{◌≡◌, ℕ, suc, ◌+◌, ◌-◌, ◌*◌, ◌%◌, ◌^◌, ◌<◌, Bool, true, false, Option, Some, None, refl, sym, ap, ◌∙◌, arith, eqb-true}
-use Rattle.std.specs.Prelude.{if◌then◌else◌}
+use Rattle.std.proofs.Common.{◌≡◌, ℕ, suc, ◌+◌, ◌-◌, ◌*◌, ◌%◌, ◌^◌, ◌<◌, true, Option, Some, None, refl, ap, ◌∙◌, arith, eqb-true}
 use Rattle.std.proofs.Math.Nat.{mul-suc}
 use Rattle.std.proofs.lemmas.Bool.{cond_both}
 use Rattle.std.proofs.lemmas.Nat.{pow_pos}
@@ -16,7 +15,7 @@ use Rattle.rtl.specs.declared.operator.Op.{Op}
 use Rattle.rtl.specs.declared.operator.Op.TheVariants.{Mul}
 use Rattle.rtl.specs.Operators.{op_result}
 use Rattle.mips_emit.specs.declared.product.ShiftedSum.{ShiftedSum}
-use Rattle.mips_emit.specs.Code.{next_word, exponent, is_power, is_symmetric, multiple, multiple_of}
+use Rattle.mips_emit.specs.Code.{next_word, exponent, is_power, multiple, multiple_of}
 use Rattle.mips_emit.proofs.Operations.{shifted, symmetric}
 
 -- a word shifted, and then its sum with the word or the difference

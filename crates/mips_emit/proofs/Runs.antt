@@ -23,15 +23,12 @@ if_some false o x e = absurd (none-some x e)
 pub runs_none : (s : State) → RunsTo [] s s
 runs_none s = record { ends = refl }
 
-runs_append : (is js : List Plain) (s t u : State) → run (map action_of is) s ≡ Some t → run (map action_of js) t ≡ Some u
-    → run (map action_of (is ++ js)) s ≡ Some u
-runs_append [] js s t u e f = ap (run (map action_of js)) (same_Some s t e) ∙ f
-runs_append (i ∷ is) js s t u e f =
-    let safe = if_some (is_safe (action_of i) s) (run (map action_of is) (state_after (action_of i) s)) t e in
-    rw safe.0 (runs_append is js (state_after (action_of i) s) t u safe.1 f)
-
 pub runs_then : {is js : List Plain} {s t u : State} → RunsTo is s t → RunsTo js t u → RunsTo (is ++ js) s u
-runs_then {is} {js} {s} {t} {u} e f = record { ends = runs_append is js s t u e.ends f.ends }
+runs_then {is = []} {s = s} {t = t} e f = rw (same_Some s t e.ends) f
+runs_then {is = i ∷ is} {js = js} {s = s} {t = t} {u = u} e f =
+    let safe = if_some (is_safe (action_of i) s) (run (map action_of is) (state_after (action_of i) s)) t e.ends in
+    let rest : RunsTo (is ++ js) (state_after (action_of i) s) u = runs_then {is = is} (record { ends = safe.1 }) f in
+    record { ends = rw safe.0 rest.ends }
 
 -- where a run of a unit stands
 pub data Point : Type 0 where

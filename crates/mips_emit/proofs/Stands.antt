@@ -1,13 +1,12 @@
 -- How a state of the machine holds homes, frames and globals.
-use Rattle.std.proofs.Common.{◌≡◌, ℕ, ◌+◌, ◌*◌, ◌/◌, ◌%◌, ◌<◌, ◌≤◌, ◌⊎◌, Bool, true, false, ◌&&◌, List, [], ◌∷◌, length, Some, refl, ◌∙◌}
-use Rattle.std.proofs.Common.{arith, eq-eqb, lt-ltb, le-leb, None}
-use Rattle.std.specs.Prelude.{nat_lt, nat_le, slice_get}
+use Rattle.std.proofs.Common.{◌≡◌, ℕ, ◌+◌, ◌*◌, ◌%◌, ◌<◌, ◌≤◌, ◌⊎◌, Bool, true, false, List, [], ◌∷◌, length, Some, refl, ◌∙◌, arith, None}
+use Rattle.std.specs.Prelude.{slice_get}
 use Rattle.std.proofs.lemmas.Bool.Decides.{nat_tests}
 use Rattle.words.specs.declared.width.Width.{Width}
 use Rattle.words.specs.declared.width.Width.TheVariants.{Word, Byte}
 use Rattle.runs.specs.Stores.{Places, Arrays, element_at}
 use Rattle.mips_isa.specs.States.{State, IsWords, is_aligned, is_open}
-use Rattle.mips_isa.specs.Starting.{data_base, stack_base, stack_end, is_mapped}
+use Rattle.mips_isa.specs.Starting.{stack_base, stack_end, is_mapped}
 use Rattle.mblock.specs.declared.limits.TheConstants.{UNIT_BYTES}
 use Rattle.rtl.specs.declared.block.RGlobal.{RGlobal}
 use Rattle.mips_homes.specs.declared.homed.Home.{Home}

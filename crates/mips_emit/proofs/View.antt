@@ -1,8 +1,8 @@
 -- Registers and words of a state, and what single instructions do to them.
-use Rattle.std.proofs.Common.{◌≡◌, ◌≢◌, ℕ, ℤ, pos, negsuc, zero, suc, ◌+◌, ◌-◌, ◌*◌, ◌/◌, ◌%◌, ◌^◌, ◌<◌, Bool, true, false, cond, ◌&&◌}
-use Rattle.std.proofs.Common.{List, [], ◌∷◌, Option, Some, None, refl, sym, ap, ap₂, ◌∙◌, arith, eq-eqb, eqb-true, ne_eqb, lt-ltb, ltb-true}
+use Rattle.std.proofs.Common.{◌≡◌, ◌≢◌, ℕ, ℤ, pos, zero, suc, ◌+◌, ◌*◌, ◌/◌, ◌%◌, ◌^◌, ◌<◌, Bool, true, false, List, [], ◌∷◌, Option, Some, refl, sym, ap, ◌∙◌}
+use Rattle.std.proofs.Common.{arith, eqb-true}
 use Rattle.std.specs.Prelude.{if◌then◌else◌, nat_eq, nat_lt, bit_or}
-use Rattle.std.proofs.lemmas.Bool.{and_right, cond_both}
+use Rattle.std.proofs.lemmas.Bool.{cond_both}
 use Rattle.std.proofs.lemmas.Bool.Decides.{nat_tests}
 use Rattle.std.proofs.lemmas.Nat.{or_shifted}
 use Rattle.words.specs.declared.operator.Operator.TheVariants as operators
@@ -19,18 +19,17 @@ use Rattle.mips_isa.specs.declared.inst.LogicOp.TheVariants.{Ori}
 use Rattle.mips_isa.specs.declared.inst.ShiftOp.TheVariants.{Sll}
 use Rattle.mips_isa.specs.declared.inst.Plain.{Plain}
 use Rattle.mips_isa.specs.declared.inst.Plain.TheVariants.{Alu, Imm, Logic, LoadUpper, Load, Shift, Store}
-use Rattle.mips_isa.specs.States.{State, IsWords, AreApart, is_register, read, put, is_open, load_at, store_at}
-use Rattle.mips_isa.specs.Actions.{sign_extension, imm_operator, alu_operator, address}
+use Rattle.mips_isa.specs.States.{State, IsWords, AreApart, read, put, is_open, load_at, store_at}
+use Rattle.mips_isa.specs.Actions.{sign_extension, imm_operator, alu_operator}
 use Rattle.mips_isa.proofs.Memory.{load_same, load-past-store}
 use Rattle.mips_isa.proofs.StateWords as words
 use Rattle.mips_homes.specs.declared.homed.Home.{Home}
 use Rattle.mips_homes.specs.declared.homed.Home.TheVariants.{Reg}
 use Rattle.mips_emit.specs.Locations.{inner_of}
-use Rattle.mips_emit.specs.Elements.{width_bytes, address_of_place, data_middle, near, page, low, scaled, scaled_register, base_sum}
-use Rattle.mips_emit.specs.Elements.{base_code, base_offset, base_word, shifted_place, base_index, shifted_offset}
+use Rattle.mips_emit.specs.Elements.{width_bytes, address_of_place, data_middle, near, page, low, base_code, base_offset, base_word, base_index, shifted_offset}
 use Rattle.mips_emit.specs.declared.offset.Offset.{Offset}
 use Rattle.mips_emit.specs.Code.{is_small, half, constant, li, load_word_at, store_word_at, move_code}
-use Rattle.mips_emit.proofs.Runs.{RunsTo, runs_then, runs_none}
+use Rattle.mips_emit.proofs.Runs.{RunsTo, runs_then}
 
 -- ---- memory and registers
 
@@ -114,9 +113,6 @@ pub sum_value : (a b : ℕ) → op_value operators.Addu a b ≡ wrap (a + b)
 unfolding op_value
 sum_value a b = refl
 
-pub half_word : (w : ℕ) → w < 2 ^ 32 → word_of_offset (half w) ≡ w
-half_word w lt = cond_both (nat_lt w 32768) (pos w) (negsuc (4294967295 - w)) (λ z. word_of_offset z ≡ w) (λ _. omega (arith, lt)) (λ _. omega (arith, lt))
-
 -- one register into another
 pub moves : (s : State) (t r : ℕ) → IsWords s → RunsTo (move_code t r ∷ []) s (set s t (read 0 s.regs r))
 moves s t r w =
@@ -129,7 +125,7 @@ alu_runs s op t a b = record { ends = refl }
 -- with a word that fits 16 bits
 pub imm_runs : (s : State) (op : ImmOp) (t a w : ℕ) → w < 2 ^ 32 → RunsTo (Imm op t a (half w) ∷ []) s
     (set s t (op_value (imm_operator op) (read 0 s.regs a) w))
-imm_runs s op t a w lt = record { ends = ap (λ v. Some (set s t (op_value (imm_operator op) (read 0 s.regs a) v))) (half_word w lt) }
+imm_runs s op t a w lt = let same : word_of_offset (half w) ≡ w = grind (arith, nat_tests) in record { ends = rw same }
 
 -- ---- loads and stores
 

@@ -1,7 +1,5 @@
-use Rattle.std.proofs.Common.{List, ◌++◌, take, sym, subst, ap, ap₂, ◌∙◌}
-use Rattle.mips_isa.specs.declared.inst.Plain.{Plain}
-use Rattle.mips_emit.specs.Code.{fetch, operand_register, operation}
-use Rattle.mips_emit.specs.Prefixes.{Emits}
+use Rattle.std.proofs.Common.{take, sym, ap, ap₂, ◌∙◌}
+use Rattle.mips_emit.specs.Code.{operand_register, operation}
 use Rattle.mips_emit.proofs.Operations.{one_or_two_are}
 use Rattle.mips_emit.proofs.Prefixes.{emits_behind}
 use Rattle.mips_emit.proofs.operation.emit_both.Goals as goal
