@@ -23,16 +23,12 @@ marked_at c [] b e = grind (arith, common_steps)
 marked_at c (x ∷ a) b e = grind (arith, common_steps, marked_at c a b)
 
 pub mark_at : (c : ℕ) (a b : List ℕ) → lacks c a ≡ true → position (λ x. x == c) (a ++ c ∷ b) ≡ Some (length a)
-mark_at c a b e =
-    let at : position_or_len (λ x. x == c) (a ++ c ∷ b) ≡ length a = marked_at c a b e in
-    let lt : length a < length (a ++ c ∷ b) = omega (arith, length-append a (c ∷ b)) in
-    grind (arith, common_steps)
+mark_at c a b e = grind (arith, common_steps, marked_at c a b e, length-append a (c ∷ b))
 
 pub cut_only : (c : ℕ) (xs : List ℕ) (i : ℕ) (a b : List ℕ) → position (λ x. x == c) xs ≡ Some i → lacks c a ≡ true → xs ≡ a ++ c ∷ b
     → (take i xs ≡ a) × (take (length xs - (i + 1)) (drop (i + 1) xs) ≡ b)
 cut_only c xs i a b p l e =
-    let there : position (λ x. x == c) xs ≡ Some (length a) = rw e (mark_at c a b l) in
-    let at : i ≡ length a = cc in
+    let at : i ≡ length a = cc (mark_at c a b l) in
     let before : take i (a ++ c ∷ b) ≡ a = take_at a (c ∷ b) i (sym at) in
     let more : a ++ c ∷ b ≡ (a ++ c ∷ []) ++ b = sym (append_assoc a (c ∷ []) b) in
     let long : length (a ++ c ∷ []) ≡ i + 1 = omega (arith, length-append a (c ∷ []), at) in
@@ -41,9 +37,7 @@ cut_only c xs i a b p l e =
     (cc, cc)
 
 pub cut_none : (c : ℕ) (xs a b : List ℕ) → position (λ x. x == c) xs ≡ None → lacks c a ≡ true → xs ≡ a ++ c ∷ b → ⊥
-cut_none c xs a b p l e =
-    let there : position (λ x. x == c) xs ≡ Some (length a) = rw e (mark_at c a b l) in
-    cc
+cut_none c xs a b p l e = cc (mark_at c a b l)
 
 before_step : (c x : ℕ) (xs : List ℕ) (b : Bool) → (x == c) ≡ b → lacks c (take (position_or_len (λ y. y == c) xs) xs) ≡ true
     → lacks c (take (position_or_len (λ y. y == c) (x ∷ xs)) (x ∷ xs)) ≡ true
@@ -58,15 +52,11 @@ before_lacks c [] = refl
 before_lacks c (x ∷ xs) = before_step c x xs (x == c) refl (before_lacks c xs)
 
 pub first_lacks : (c : ℕ) (xs : List ℕ) (i : ℕ) → position (λ x. x == c) xs ≡ Some i → lacks c (take i xs) ≡ true
-first_lacks c xs i p =
-    let before : lacks c (take (position_or_len (λ x. x == c) xs) xs) ≡ true = before_lacks c xs in
-    grind (arith, common_steps)
+first_lacks c xs i p = grind (arith, common_steps, before_lacks c xs)
 
 pub none_lacks : (c : ℕ) (xs : List ℕ) → position (λ x. x == c) xs ≡ None → lacks c xs ≡ true
 none_lacks c xs p =
-    let before : lacks c (take (position_or_len (λ x. x == c) xs) xs) ≡ true = before_lacks c xs in
-    let all : take (position_or_len (λ x. x == c) xs) xs ≡ xs = take_all _ xs (grind (arith, common_steps)) in
-    rw all at before
+    let all = take_all (position_or_len (λ x. x == c) xs) xs (grind (arith, common_steps)) in rw all at (before_lacks c xs)
 
 pub lines_cut : (a b : List ℕ) → lacks 10 a ≡ true → lines_of (a ++ 10 ∷ b) ≡ a ∷ lines_of b
 lines_cut [] b e = refl

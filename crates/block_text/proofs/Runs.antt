@@ -1,5 +1,5 @@
 -- Whole runs of a reader, and what its spots say of the lines before them.
-use Rattle.std.proofs.Common.{◌≡◌, ℕ, ◌<◌, ◌≤◌, inl, inr, List, [], ◌∷◌, ◌++◌, true, false, Option, Some, None, length, refl, sym, ap, subst, arith}
+use Rattle.std.proofs.Common.{◌≡◌, ℕ, ◌<◌, ◌≤◌, inl, inr, List, [], ◌∷◌, ◌++◌, Option, Some, None, length, refl, sym, ap, subst, arith}
 use Rattle.std.proofs.Common.{codes, is_some}
 use Rattle.std.proofs.lemmas.List.{append_assoc, append-nil, length-append}
 use Rattle.mips_isa.specs.declared.inst.Plain.{Plain}
@@ -31,19 +31,13 @@ section_runs mk limit law [] acc (i ∷ is) a n = absurd a
 section_runs mk limit law (l ∷ ls) acc [] a n = absurd a
 section_runs mk limit law (l ∷ ls) acc (i ∷ is) a n =
     let room : length acc < limit = omega (arith, length-append acc (i ∷ is)) in
-    let same : (acc ++ i ∷ []) ++ is ≡ acc ++ i ∷ is = append_assoc acc (i ∷ []) is in
-    let fits : length ((acc ++ i ∷ []) ++ is) ≤ limit = rw same n in
-    let rest : Runs (mk (acc ++ i ∷ [])) ls (mk ((acc ++ i ∷ []) ++ is)) = section_runs mk limit law ls (acc ++ i ∷ []) is a.1 fits in
-    (mk (acc ++ i ∷ []), law acc l i a.0 room, subst (λ (xs : List Plain). Runs (mk (acc ++ i ∷ [])) ls (mk xs)) same rest)
+    let same = append_assoc acc (i ∷ []) is in
+    (mk (acc ++ i ∷ []), law acc l i a.0 room, rw (← same) (section_runs mk limit law ls (acc ++ i ∷ []) is a.1 (rw same n)))
 
 last_runs : (b : BlockParts) (is : List Plain) (e : Exit) (slot : Option Plain) (ls : List (List ℕ)) → EndsWith ls slot → is_some slot ≡ is_slotted e
     → Runs (after_exit b is e) ls (Done b (order_of is e slot))
-last_runs b is e None ls h s =
-    let no : is_slotted e ≡ false = sym s in
-    rw (h, no) refl
-last_runs b is e (Some i) ls h s =
-    let yes : is_slotted e ≡ true = sym s in
-    rw (h.1, yes) (Done b (order_of is e (Some i)), (i, h.2, refl), refl)
+last_runs b is e None ls h s = rw (h, ← s)
+last_runs b is e (Some i) ls h s = rw (h.1, ← s) (Done b (order_of is e (Some i)), (i, h.2, refl), refl)
 
 pub spelled_runs : (ls : List (List ℕ)) (b : BlockParts) (o : OrderParts) → SpellsPair ls b o → Runs AtBlock ls (Done b o)
 spelled_runs ls b o s =

@@ -1,5 +1,5 @@
 -- What a reader's spot says of the lines before it.
-use Rattle.std.proofs.Common.{◌≡◌, ◌∙◌, ℕ, ◌<◌, ◌≤◌, inl, inr, List, [], ◌∷◌, ◌++◌, Bool, true, false, Option, Some, None, length, refl, sym, ap}
+use Rattle.std.proofs.Common.{◌≡◌, ℕ, ◌<◌, ◌≤◌, inl, inr, List, [], ◌∷◌, ◌++◌, Bool, true, false, Option, Some, None, length, refl, sym}
 use Rattle.std.proofs.Common.{subst, arith, codes, is_some}
 use Rattle.std.proofs.lemmas.List.{append_assoc, append-nil, length-append}
 use Rattle.mips_isa.specs.declared.inst.Plain.{Plain}
@@ -60,23 +60,25 @@ all_push (k ∷ ls) (j ∷ is) l i a h = (a.0, all_push ls is l i a.1 h)
 more_in_block : (is : List Plain) (ls : List (List ℕ)) (l : List ℕ) (i : Plain) → BlockBegun is ls → SpellsPlain l i → length is < 512
     → BlockBegun (is ++ i ∷ []) (ls ++ l ∷ [])
 more_in_block is ls l i s h n =
-    let size : length (is ++ i ∷ []) ≤ 512 = omega (arith, length-append is (i ∷ [])) in
-    record { lines = s.lines ++ l ∷ []; whole = rw s.whole refl; spelled = all_push s.lines is l i s.spelled h; size = size }
+    record { lines = s.lines ++ l ∷ []; whole = rw s.whole; spelled = all_push s.lines is l i s.spelled h; size = omega (arith, length-append is (i ∷ [])) }
 
 block_left : (is : List Plain) (ls : List (List ℕ)) (l : List ℕ) (e : Exit) → BlockBegun is ls → SpellsExit l e
     → BlockRead (record { insts = is; exit = e }) (ls ++ l ∷ [])
-block_left is ls l e s h =
-    record { lines = s.lines; exit = l; whole = rw s.whole refl; spelled = s.spelled; leaves = h; size = s.size }
+block_left is ls l e s h = record { lines = s.lines; exit = l; whole = rw s.whole refl; spelled = s.spelled; leaves = h; size = s.size }
 
 order_begun : (b : BlockParts) (ls : List (List ℕ)) (l : List ℕ) → BlockRead b ls → l ≡ codes "order" → OrderBegun b [] (ls ++ l ∷ [])
 order_begun b ls l s e = record { before = ls; lines = []; block = s; whole = rw e refl; spelled = tt; size = omega arith }
 
 more_in_order : (b : BlockParts) (is : List Plain) (ls : List (List ℕ)) (l : List ℕ) (i : Plain) → OrderBegun b is ls → SpellsPlain l i
     → length is < 2048 → OrderBegun b (is ++ i ∷ []) (ls ++ l ∷ [])
-more_in_order b is ls l i s h n =
-    let size : length (is ++ i ∷ []) ≤ 2048 = omega (arith, length-append is (i ∷ [])) in
-    let whole : ls ++ l ∷ [] ≡ s.before ++ codes "order" ∷ (s.lines ++ l ∷ []) = rw s.whole (simp append_assoc) in
-    record { before = s.before; lines = s.lines ++ l ∷ []; block = s.block; whole = whole; spelled = all_push s.lines is l i s.spelled h; size = size }
+more_in_order b is ls l i s h n = record {
+  before = s.before;
+  lines = s.lines ++ l ∷ [];
+  block = s.block;
+  whole = rw s.whole (simp append_assoc);
+  spelled = all_push s.lines is l i s.spelled h;
+  size = omega (arith, length-append is (i ∷ []));
+}
 
 -- the whole text, of a block, an order's lines, and what follows them
 spelled_whole : (b : BlockParts) (is : List Plain) (e : Exit) (slot : Option Plain) (ls last : List (List ℕ)) (exit : List ℕ)
@@ -107,9 +109,7 @@ order_left b is e ls l false v s h = rw v (spelled_whole b is e None ls [] l s h
 
 slot_read : (b : BlockParts) (is : List Plain) (e : Exit) (ls : List (List ℕ)) (l : List ℕ) (i : Plain) → OrderLeft b is e ls → SpellsSlot l i
     → SpellsPair (ls ++ l ∷ []) b (order_of is e (Some i))
-slot_read b is e ls l i s h =
-    let all : ls ++ l ∷ [] ≡ s.before ++ s.exit ∷ (l ∷ []) = ap (λ xs. xs ++ l ∷ []) s.whole ∙ append_assoc s.before (s.exit ∷ []) (l ∷ []) in
-    subst (λ (xs : List (List ℕ)). SpellsPair xs b (order_of is e (Some i))) (sym all)
+slot_read b is e ls l i s h = rw (s.whole, append_assoc)
     (spelled_whole b is e (Some i) s.before (l ∷ []) s.exit s.order s.leaves (l, refl, h) (sym s.slotted))
 
 pub stood_steps : (p q : StageParts) (ls : List (List ℕ)) (l : List ℕ) → Stood p ls → Steps p l q → Stood q (ls ++ l ∷ [])

@@ -1,10 +1,10 @@
-use Rattle.std.proofs.Common.{◌≡◌, ℕ, List, [], refl, arith, ap, subst}
+use Rattle.std.proofs.Common.{◌≡◌, [], refl, arith, ap}
 use Rattle.std.proofs.lemmas.List.{nil_from_length}
 use Rattle.mblock.specs.Parts.{BlockParts, OrderParts}
 use Rattle.block_text.specs.StageParts.{Done}
 use Rattle.block_text.specs.Stages.{stage_parts}
 use Rattle.block_text.proofs.Ends.{not_at_end}
-use Rattle.block_text.proofs.Reading.{Reading, reading_step, fails_here, no_fail, is_done, ends_early}
+use Rattle.block_text.proofs.Reading.{reading_step, fails_here, no_fail, is_done, ends_early}
 use Rattle.block_text.proofs.reader.read.Goals as goal
 
 pub returns-in-Ok-None-clause-only : goal.returns-in-Ok-None-clause-only
@@ -34,17 +34,15 @@ loop-rest-preserved c = record {
 pub returns-in-Done-clause-only : goal.returns-in-Done-clause-only
 returns-in-Done-clause-only c = λ b o s.
     let empty : c.loop-rest.rest.now ≡ [] = nil_from_length c.loop-rest.rest.now (grind arith) in
-    let reading : Reading c.args.text.now [] c.loop-rest.count (stage_parts c.loop-rest.place) =
-    subst (λ (x : List ℕ). Reading c.args.text.now x c.loop-rest.count (stage_parts c.loop-rest.place)) empty c.loop-rest.invariant.reading in
-    let at : Done b o ≡ stage_parts c.loop-rest.place = is_done c.args.text.now c.loop-rest.count (stage_parts c.loop-rest.place) b o reading s in
-    let here : stage_parts c.loop-rest.place ≡ Done c.in-Done.block c.in-Done.order = ap stage_parts c.in-Done.is in
+    let reading = rw empty at c.loop-rest.invariant.reading in
+    let at = is_done c.args.text.now c.loop-rest.count (stage_parts c.loop-rest.place) b o reading s in
+    let here = ap stage_parts c.in-Done.is in
     (cc, cc)
 
 pub returns : goal.returns
 returns c =
     let empty : c.loop-rest.rest.now ≡ [] = nil_from_length c.loop-rest.rest.now (grind arith) in
-    let reading : Reading c.args.text.now [] c.loop-rest.count (stage_parts c.loop-rest.place) =
-    subst (λ (x : List ℕ). Reading c.args.text.now x c.loop-rest.count (stage_parts c.loop-rest.place)) empty c.loop-rest.invariant.reading in
+    let reading = rw empty at c.loop-rest.invariant.reading in
     let not_done : (b : BlockParts) (o : OrderParts) → Done b o ≡ stage_parts c.loop-rest.place
     → ⊥ = λ b o e. not_at_end c.loop-rest.place b o c.in_default.not-Done e in
     record {
