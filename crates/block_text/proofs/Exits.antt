@@ -1,22 +1,22 @@
 -- Lines that spell an exit.
 use Rattle.std.proofs.Common.{◌≡◌, ◌∙◌, ◌++◌, ◌∷◌, ℕ, List, Option, Some, None, codes, ◌==◌, get_or, refl, sym, ap, ap₂, false, true≢false, eq-eqb, IfSome}
 use Rattle.mips_isa.specs.declared.inst.PairTest.TheVariants.{Equal, NotEqual}
-use Rattle.mips_isa.specs.declared.inst.ZeroTest.TheVariants.{AtMostZero, AboveZero, BelowZero, AtLeastZero}
+use Rattle.mips_isa.specs.declared.inst.ZeroTest.TheVariants.{AtMostZero}
 use Rattle.mblock.specs.declared.exit.Exit.{Exit}
 use Rattle.mblock.specs.declared.exit.Exit.TheVariants.{Goto, BranchPair, BranchZero, Call, Return, Out, Halt}
 use Rattle.block_text.specs.Spelling.{SpellsExit, HasTargets, exit_name_text, exit_text, name_of_exit, named_text, targets_text}
 use Rattle.block_text.specs.declared.names.ExitName.{ExitName}
 use Rattle.block_text.specs.declared.names.ExitName.TheVariants as names
 
-pub spaced : (line : List ℕ) (e : Exit) → SpellsExit line e → (line ≡ codes "return" → ⊥) → (line ≡ codes "halt" → ⊥)
+pub spaced : (line r s : List ℕ) (e : Exit) → (line ≡ r → ⊥) → r ≡ codes "return" → (line ≡ s → ⊥) → s ≡ codes "halt" → SpellsExit line e
     → (n : ExitName) × (name_of_exit e ≡ Some n) × (line ≡ exit_name_text n ++ 32 ∷ targets_text e)
-spaced line (Goto t) h f g = (names.Goto, refl, h.1)
-spaced line (BranchPair test rs rt t e) h f g = (names.BranchPair test, refl, h.1)
-spaced line (BranchZero test rs t e) h f g = (names.BranchZero test, refl, h.1)
-spaced line (Call n m) h f g = (names.Call, refl, h.1)
-spaced line Return h f g = absurd (f h.1)
-spaced line (Out n) h f g = (names.Out, refl, h.1)
-spaced line Halt h f g = absurd (g h.1)
+spaced line r s (Goto t) no_return is_r no_halt is_s h = (names.Goto, refl, h.1)
+spaced line r s (BranchPair test rs rt t e) no_return is_r no_halt is_s h = (names.BranchPair test, refl, h.1)
+spaced line r s (BranchZero test rs t e) no_return is_r no_halt is_s h = (names.BranchZero test, refl, h.1)
+spaced line r s (Call n m) no_return is_r no_halt is_s h = (names.Call, refl, h.1)
+spaced line r s Return no_return is_r no_halt is_s h = absurd (no_return (h.1 ∙ sym is_r))
+spaced line r s (Out n) no_return is_r no_halt is_s h = (names.Out, refl, h.1)
+spaced line r s Halt no_return is_r no_halt is_s h = absurd (no_halt (h.1 ∙ sym is_s))
 
 -- exits that name blocks begin with another letter than `return` and `halt`
 apart : (a b : List ℕ) → (get_or a 0 0 == get_or b 0 0) ≡ false → a ≡ b → ⊥
@@ -29,9 +29,7 @@ alone word P g b c o returns halts (Goto t) h = absurd (apart word (exit_text (G
 alone word P g b c o returns halts (BranchPair Equal rs rt t e) h = absurd (apart word (exit_text (BranchPair Equal rs rt t e)) b h)
 alone word P g b c o returns halts (BranchPair NotEqual rs rt t e) h = absurd (apart word (exit_text (BranchPair NotEqual rs rt t e)) b h)
 alone word P g b c o returns halts (BranchZero AtMostZero rs t e) h = absurd (apart word (exit_text (BranchZero AtMostZero rs t e)) b h)
-alone word P g b c o returns halts (BranchZero AboveZero rs t e) h = absurd (apart word (exit_text (BranchZero AboveZero rs t e)) b h)
-alone word P g b c o returns halts (BranchZero BelowZero rs t e) h = absurd (apart word (exit_text (BranchZero BelowZero rs t e)) b h)
-alone word P g b c o returns halts (BranchZero AtLeastZero rs t e) h = absurd (apart word (exit_text (BranchZero AtLeastZero rs t e)) b h)
+alone word P g b c o returns halts (BranchZero test rs t e) h = absurd (apart word (exit_text (BranchZero test rs t e)) b h)
 alone word P g b c o returns halts (Call f n) h = absurd (apart word (exit_text (Call f n)) c h)
 alone word P g b c o returns halts Return h = returns h
 alone word P g b c o returns halts (Out n) h = absurd (apart word (exit_text (Out n)) o h)

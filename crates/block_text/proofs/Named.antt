@@ -1,14 +1,15 @@
 -- The mnemonic or the exit that a word names, looked up among all.
 use Rattle.std.proofs.Common.{◌≡◌, ℕ, zero, suc, ◌<◌, ◌+◌, Bool, true, false, length, drop, get_or, arith, List, [], ◌∷◌, Option, Some, None, if◌then◌else◌, refl, sym, ap, ◌∙◌, bytes_eq, IfSome}
+use Rattle.std.proofs.lemmas.Bool.{cond_both}
 use Rattle.std.proofs.lemmas.Option.{same_Some, none-some}
 use Rattle.std.proofs.lemmas.Slice.Eq.{bytes_eq-Decides}
-use Rattle.words.specs.declared.sign.Sign.TheVariants.{Signed, Unsigned}
-use Rattle.words.specs.declared.width.Width.TheVariants.{Word, Byte}
-use Rattle.mips_isa.specs.declared.inst.ShiftOp.TheVariants.{Sll, Srl, Sra}
-use Rattle.mips_isa.specs.declared.inst.AluOp.TheVariants.{Addu, Subu, And, Or, Xor, Nor, Slt, Sltu}
-use Rattle.mips_isa.specs.declared.inst.ImmOp.TheVariants.{Addiu, Slti, Sltiu}
-use Rattle.mips_isa.specs.declared.inst.LogicOp.TheVariants.{Andi, Ori, Xori}
-use Rattle.mips_isa.specs.declared.inst.HiLo.TheVariants.{Hi, Lo}
+use Rattle.words.specs.declared.sign.Sign.TheVariants.{Signed}
+use Rattle.words.specs.declared.width.Width.TheVariants.{Word}
+use Rattle.mips_isa.specs.declared.inst.ShiftOp.TheVariants.{Sll}
+use Rattle.mips_isa.specs.declared.inst.AluOp.TheVariants.{Addu}
+use Rattle.mips_isa.specs.declared.inst.ImmOp.TheVariants.{Addiu}
+use Rattle.mips_isa.specs.declared.inst.LogicOp.TheVariants.{Andi}
+use Rattle.mips_isa.specs.declared.inst.HiLo.TheVariants.{Hi}
 use Rattle.mips_isa.specs.declared.inst.PairTest.TheVariants.{Equal}
 use Rattle.mips_isa.specs.declared.inst.ZeroTest.TheVariants.{AtMostZero}
 use Rattle.mips_isa.specs.declared.text.Mnemonic.{Mnemonic}
@@ -24,36 +25,16 @@ use Rattle.block_text.specs.declared.names.TheConstants.{MNEMONICS, EXIT_NAMES}
 -- each is found by its text
 each : (n : Mnemonic) → first_named (λ m. mnemonic_text m) (mnemonic_text n) MNEMONICS.now ≡ Some n
 each (mnemonics.Shift Sll) = refl
-each (mnemonics.Shift Srl) = refl
-each (mnemonics.Shift Sra) = refl
 each (mnemonics.ShiftBy Sll) = refl
-each (mnemonics.ShiftBy Srl) = refl
-each (mnemonics.ShiftBy Sra) = refl
 each (mnemonics.Alu Addu) = refl
-each (mnemonics.Alu Subu) = refl
-each (mnemonics.Alu And) = refl
-each (mnemonics.Alu Or) = refl
-each (mnemonics.Alu Xor) = refl
-each (mnemonics.Alu Nor) = refl
-each (mnemonics.Alu Slt) = refl
-each (mnemonics.Alu Sltu) = refl
 each (mnemonics.Imm Addiu) = refl
-each (mnemonics.Imm Slti) = refl
-each (mnemonics.Imm Sltiu) = refl
 each (mnemonics.Logic Andi) = refl
-each (mnemonics.Logic Ori) = refl
-each (mnemonics.Logic Xori) = refl
-each mnemonics.LoadUpper = refl
 each (mnemonics.MoveFrom Hi) = refl
-each (mnemonics.MoveFrom Lo) = refl
 each (mnemonics.Multiply Signed) = refl
-each (mnemonics.Multiply Unsigned) = refl
 each (mnemonics.Divide Signed) = refl
-each (mnemonics.Divide Unsigned) = refl
 each (mnemonics.Load Word) = refl
-each (mnemonics.Load Byte) = refl
 each (mnemonics.Store Word) = refl
-each (mnemonics.Store Byte) = refl
+each _ = refl
 
 pub found_by : (word : List ℕ) (n : Mnemonic) → word ≡ mnemonic_text n → first_named (λ m. mnemonic_text m) word MNEMONICS.now ≡ Some n
 found_by word n e = ap (λ w. first_named (λ m. mnemonic_text m) w MNEMONICS.now) e ∙ each n
@@ -72,12 +53,8 @@ exit_found_by word n e = ap (λ w. first_named (λ m. exit_name_text m) w EXIT_N
 
 is_found : {A : Type 0} (name : A → List ℕ) (word : List ℕ) (ns : List A) (m : A) → first_named name word ns ≡ Some m → word ≡ name m
 is_found name word [] m e = absurd (none-some m e)
-is_found name word (n ∷ ns) m e = go (bytes_eq word (name n)) refl e (is_found name word ns m)
-  where
-    go : (b : Bool) → bytes_eq word (name n) ≡ b → (if b then Some n else first_named name word ns) ≡ Some m
-        → (first_named name word ns ≡ Some m → word ≡ name m) → word ≡ name m
-    go true t e behind = (bytes_eq-Decides word (name n)).0 t ∙ ap name (same_Some n m e)
-    go false t e behind = behind e
+is_found name word (n ∷ ns) m e = cond_both (bytes_eq word (name n)) (Some n) (first_named name word ns) (λ o. o ≡ Some m → word ≡ name m)
+    (λ t e. (bytes_eq-Decides word (name n)).0 t ∙ ap name (same_Some n m e)) (λ _ e. is_found name word ns m e) e
 
 pub found : {A : Type 0} (name : A → List ℕ) (word : List ℕ) (ns : List A) (o : Option A) → o ≡ first_named name word ns
     → IfSome o (λ n. word ≡ name n)
@@ -95,8 +72,7 @@ named_rest name word (y ∷ l) (suc k) x lt is other = named_rest name word l k 
 pub named_step : {A : Type 0} (name : A → List ℕ) (word : List ℕ) (l : List A) (k : ℕ) (x : A) → k < length l → x ≡ get_or l k x
     → bytes_eq word (name x) ≡ false → first_named name word (drop (k + 1) l) ≡ first_named name word (drop k l)
 named_step name word l k x lt is other =
-    let next : suc k ≡ k + 1 = omega arith in
-    ap (λ j. first_named name word (drop j l)) (sym next) ∙ named_rest name word l k x lt is other
+    let next : k + 1 ≡ suc k = omega arith in rw next (named_rest name word l k x lt is other)
 
 pub named_here : {A : Type 0} (name : A → List ℕ) (word : List ℕ) (l : List A) (k : ℕ) (x : A) → k < length l → x ≡ get_or l k x
     → bytes_eq word (name x) ≡ true → first_named name word (drop k l) ≡ Some x

@@ -25,16 +25,14 @@ returns-then-eq-2-clause-only c = λ e h.
 
 pub returns-in_err-halves-clause-only : goal.returns-in_err-halves-clause-only
 returns-in_err-halves-clause-only c = λ e h.
-    let s = spaced c.args.line.now e h (λ r. texts_apart c.args.line.now c.as_slice.result.now (sym c.eq.ensures ∙ c.if-eq.false)
-    (r ∙ sym c.as_slice.ensures)) (λ r. texts_apart c.args.line.now c.as_slice-2.result.now (sym c.eq-2.ensures ∙ c.if-eq-2.false)
-    (r ∙ sym c.as_slice-2.ensures)) in
+    let s = spaced c.args.line.now _ _ e (texts_apart c.args.line.now _ (sym c.eq.ensures ∙ c.if-eq.false)) c.as_slice.ensures
+    (texts_apart c.args.line.now _ (sym c.eq-2.ensures ∙ c.if-eq-2.false)) c.as_slice-2.ensures h in
     absurd (let none = c.in_err-halves.ensures.only (exit_name_text s.0) (targets_text e) (name_lacks s.0) s.2 in none)
 
 pub returns-in_err-name-clause-only : goal.returns-in_err-name-clause-only
 returns-in_err-name-clause-only c = λ e h.
-    let s = spaced c.args.line.now e h (λ r. texts_apart c.args.line.now c.as_slice.result.now (sym c.eq.ensures ∙ c.if-eq.false)
-    (r ∙ sym c.as_slice.ensures)) (λ r. texts_apart c.args.line.now c.as_slice-2.result.now (sym c.eq-2.ensures ∙ c.if-eq-2.false)
-    (r ∙ sym c.as_slice-2.ensures)) in
+    let s = spaced c.args.line.now _ _ e (texts_apart c.args.line.now _ (sym c.eq.ensures ∙ c.if-eq.false)) c.as_slice.ensures
+    (texts_apart c.args.line.now _ (sym c.eq-2.ensures ∙ c.if-eq-2.false)) c.as_slice-2.ensures h in
     let at = c.in_ok-halves.ensures.only (exit_name_text s.0) (targets_text e) (name_lacks s.0) s.2 in
     absurd (let none = c.in_err-name.ensures.only s.0 at.0 in cc)
 
@@ -43,8 +41,7 @@ returns-clause-found c = named_spelled c.args.line.now _ _ _ c.targets.result c.
 
 pub returns-clause-only : goal.returns-clause-only
 returns-clause-only c = λ e h.
-    let s = spaced c.args.line.now e h (λ r. texts_apart c.args.line.now c.as_slice.result.now (sym c.eq.ensures ∙ c.if-eq.false)
-    (r ∙ sym c.as_slice.ensures)) (λ r. texts_apart c.args.line.now c.as_slice-2.result.now (sym c.eq-2.ensures ∙ c.if-eq-2.false)
-    (r ∙ sym c.as_slice-2.ensures)) in
+    let s = spaced c.args.line.now _ _ e (texts_apart c.args.line.now _ (sym c.eq.ensures ∙ c.if-eq.false)) c.as_slice.ensures
+    (texts_apart c.args.line.now _ (sym c.eq-2.ensures ∙ c.if-eq-2.false)) c.as_slice-2.ensures h in
     let at = c.in_ok-halves.ensures.only (exit_name_text s.0) (targets_text e) (name_lacks s.0) s.2 in
     c.targets.ensures.only e (named_has _ s.0 e c.args.line.now _ (c.in_ok-name.ensures.only s.0 at.0) h s.1 at.1)
