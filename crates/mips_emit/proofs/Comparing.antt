@@ -72,6 +72,7 @@ known_zero (Some c) v said is = sym (said c refl) ∙ eqb-true c 0 is
 abbrev comparison_at : Locations → Facts → Op → (d a b : ℕ) → Form → Comparison
 comparison_at at facts op d a b form = record { result = d; op = op; form = form; left = operand_with at facts a; right = operand_with at facts b }
 
+-- a comparison has the form that was found for it
 comparison_is : (d : ℕ) (op : Op) (l r : Operand) (o : Option Form) (m : Comparison) → operator_comparison d op l r o ≡ Some m
     → (o ≡ Some m.form) × (operator_comparison d op l r (Some m.form) ≡ Some m)
 comparison_is d op l r None m e = absurd (none-some m e)
