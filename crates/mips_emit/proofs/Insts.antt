@@ -4,7 +4,6 @@ use Rattle.std.proofs.Common.{refl, sym, ap, ◌∙◌, subst, arith, nat_eq, lt
 use Rattle.std.specs.Prelude.{◌-◌, slice_get, nat_lt}
 use Rattle.std.proofs.lemmas.Option.{same_Some, none-some, cond_some}
 use Rattle.words.specs.declared.operator.Operator.TheVariants as operators
-use Rattle.words.specs.declared.width.Width.TheVariants as widths
 use Rattle.words.specs.Words.{wrap}
 use Rattle.words.specs.Operators.{op_value}
 use Rattle.runs.specs.Stores.{Places, places_with, Arrays, element_at, arrays_with}
@@ -41,7 +40,7 @@ use Rattle.mips_emit.specs.Offsets.{addend, offset_from, sum_offset, or_offset, 
 use Rattle.rtl.specs.declared.operator.Op.TheVariants.{Add, Sub}
 use Rattle.std.proofs.lemmas.Bool.{eqb-false, cond_both}
 use Rattle.std.proofs.lemmas.Bool.Decides.{nat_tests}
-use Rattle.mips_emit.specs.Elements.{width_of, width_bytes, direct, element_place, place_in, address_of_place, near, base_code, base_word, base_index}
+use Rattle.mips_emit.specs.Elements.{width_of, width_bytes, direct, element_place, place_in, address_of_place, base_code, base_word, base_index}
 use Rattle.mips_emit.specs.Elements.{shifted_offset, reach_by, element_base, element_offset}
 use Rattle.mips_emit.specs.Code.{fetch, operand_register, into, immediate_of, is_symmetric, turned_immediate_of, turned_less_of, code_by_less, code_by_left}
 use Rattle.mips_emit.specs.Code.{known_operand, multiple_of, multiple_code, code_by_multiple, code_by_word, code_by_right, op_code, holds_base, reach_with}

@@ -26,7 +26,7 @@ use Rattle.mips_isa.proofs.StateWords as words
 use Rattle.mips_homes.specs.declared.homed.Home.{Home}
 use Rattle.mips_homes.specs.declared.homed.Home.TheVariants.{Reg}
 use Rattle.mips_emit.specs.Locations.{inner_of}
-use Rattle.mips_emit.specs.Elements.{width_bytes, address_of_place, data_middle, near, page, low, base_code, base_offset, base_word, base_index, shifted_offset}
+use Rattle.mips_emit.specs.Elements.{width_bytes, address_of_place, data_middle, near, page, base_code, base_offset, base_word, base_index, shifted_offset}
 use Rattle.mips_emit.specs.declared.offset.Offset.{Offset}
 use Rattle.mips_emit.specs.Code.{is_small, half, constant, li, load_word_at, store_word_at, move_code}
 use Rattle.mips_emit.proofs.Runs.{RunsTo, runs_then}
