@@ -5,8 +5,6 @@ mod Tracking
 pub mod Values
 pub mod MipsTerms
 pub mod Parts
-pub mod Asked
 mod Growth
 mod Shared
-mod Nops
 pub mod Starts

@@ -10,7 +10,7 @@ use Rattle.sym_terms.specs.NormalForms.{label_constant, constant_of, is_sum, at_
 use Rattle.sym_terms.proofs.Sameness.{operator-is}
 use Rattle.term_table.specs.Passes.{PassState}
 use Rattle.sym_exec.specs.MipsTerms.{HasSeen, HasTree, HaveTrees, IsNode}
-use Rattle.sym_exec.proofs.MipsTerms.{still_tree, one_tree}
+use Rattle.sym_exec.proofs.Tickets.{still_tree, one_tree}
 use Rattle.sym_exec.specs.declared.address.TermAddress.{TermAddress}
 use Rattle.sym_exec.specs.Standing.{Later, IsAddress, AreSummands}
 

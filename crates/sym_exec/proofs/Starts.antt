@@ -1,6 +1,5 @@
 -- The terms of the start stay what they are.
-use Rattle.sym_exec.proofs.MipsTerms.{still_tree}
-use Rattle.sym_exec.proofs.Tickets.{known_on, hold_on}
+use Rattle.sym_exec.proofs.Tickets.{still_tree, known_on, hold_on}
 use Rattle.sym_exec.specs.Standing.{Later}
 use Rattle.sym_exec.specs.Starts.{IsStart}
 use Rattle.sym_exec.specs.declared.state.TermPlaces.{TermPlaces}

@@ -3,8 +3,7 @@ use Rattle.words.specs.declared.operator.Operator.TheVariants.{Addu}
 use Rattle.sym_terms.specs.declared.label.Label.TheVariants.{Op}
 use Rattle.sym_terms.specs.Trees.{none}
 use Rattle.sym_terms.specs.NormalForms.{const_tree}
-use Rattle.sym_exec.proofs.MipsTerms.{still_seen, still_tree}
-use Rattle.sym_exec.proofs.Asked.{err_always}
+use Rattle.sym_exec.proofs.Tickets.{still_seen, still_tree, err_always}
 use Rattle.sym_exec.proofs.Parts.{lacks_second}
 use Rattle.sym_exec.proofs.address.plus_term.Goals as goal
 

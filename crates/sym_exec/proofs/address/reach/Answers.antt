@@ -1,6 +1,5 @@
 use Rattle.std.proofs.Common.{ne_eqb, arith}
-use Rattle.sym_exec.proofs.MipsTerms.{still_seen, still_tree}
-use Rattle.sym_exec.proofs.Tickets.{goes_on, goes_more, interns_by}
+use Rattle.sym_exec.proofs.Tickets.{still_seen, still_tree, goes_on, goes_more, interns_by}
 use Rattle.sym_exec.proofs.Reading.{address-later, sum-reached}
 use Rattle.sym_exec.proofs.address.reach.Goals as goal
 

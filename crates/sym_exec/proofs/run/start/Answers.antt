@@ -1,7 +1,6 @@
 use Rattle.std.proofs.Common.{rules}
-use Rattle.sym_exec.proofs.Tickets.{goes_on, goes_more, interns_by, hold_on, known_on}
+use Rattle.sym_exec.proofs.Tickets.{goes_on, goes_more, interns_by, hold_on, known_on, err_always, lacks_here}
 use Rattle.sym_exec.specs.Asked.{asked_first}
-use Rattle.sym_exec.proofs.Asked.{err_always, lacks_here}
 use Rattle.sym_exec.proofs.run.start.Goals as goal
 
 pub returns-clause-start : goal.returns-clause-start

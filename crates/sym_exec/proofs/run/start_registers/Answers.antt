@@ -1,17 +1,16 @@
-use Rattle.std.proofs.Common.{rules, ◌≡◌, ℕ, zero, ◌<◌, ◌+◌, length, ◌∙◌, subst, arith}
+use Rattle.std.proofs.Common.{rules, refl, ◌≡◌, ℕ, zero, ◌<◌, ◌+◌, length, ◌∙◌, arith}
 use Rattle.std.proofs.Math.ListN.{length-set}
-use Rattle.sym_exec.proofs.MipsTerms.{still_tree, tree_seen}
-use Rattle.sym_exec.specs.Symbolic.{start_trees}
-use Rattle.sym_exec.proofs.Tickets.{later_more, goes_on, goes_more, interns_by, set_tree, start_of}
+use Rattle.sym_exec.proofs.Tickets.{still_tree, tree_seen, later_more, goes_on, goes_more, interns_by, set_at, start_of, err_always, lacks_here, lacks_next, lacks_start}
+use Rattle.sym_exec.specs.MipsTerms.{HasTree}
+use Rattle.sym_exec.specs.Symbolic.{start_trees, register_tree}
 use Rattle.sym_exec.specs.Asked.{asked_first}
-use Rattle.sym_exec.proofs.Asked.{err_always, lacks_here, lacks_next, lacks_start}
 use Rattle.sym_exec.proofs.run.start_registers.Goals as goal
 
 pub loop-r-init : goal.loop-r-init
 loop-r-init c = record {
   goes = goes_on c.in_ok-zero.ensures.pass;
   grows = omega (arith, c.in_ok-zero.ensures.grows);
-  count = Rattle.std.proofs.Common.refl;
+  count = refl;
   stands = λ q lt.
       let e : q ≡ 0 = omega arith in rw e c.in_ok-zero.ensures.tree;
 }
@@ -27,8 +26,9 @@ loop-r-preserved c =
       grows = omega (arith, c.loop-r.invariant.grows, c.in_ok-regs.ensures.grows, c.loop-r-test.true);
       count = length-set regs k c.in_ok-regs.field-0 ∙ c.loop-r.invariant.count;
       stands = λ q lt.
-          set_tree c.start_reg.new.terms.pass.now regs k c.in_ok-regs.field-0 q inside (c.loop-r.auto.r) c.in_ok-regs.ensures.tree lt
-          (λ below. still_tree more.extends (c.loop-r.invariant.stands q below));
+          set_at (λ v. HasTree c.start_reg.new.terms.pass.now v (register_tree start_trees q)) regs k c.in_ok-regs.field-0 q inside
+          (λ same. rw (same, start_of k c.loop-r.auto.r) c.in_ok-regs.ensures.tree)
+          (λ other. still_tree more.extends (c.loop-r.invariant.stands q (omega (arith, lt, other))));
     }
 
 pub returns-clause-hold : goal.returns-clause-hold

@@ -1,29 +1,27 @@
 use Rattle.std.proofs.Common.{refl, ap, arith}
 use Rattle.std.specs.Prelude.{vec_len}
-use Rattle.sym_exec.proofs.MipsTerms.{still_tree}
+use Rattle.sym_exec.proofs.Tickets.{still_tree, goes_none, goes_on, interns_by, get_tree, known_on, known_put, hold_on, hold_put, hold_same, on_ok_weaker, ok_always, err_always, on_err_weaker, lacks_here}
 use Rattle.sym_exec.specs.declared.state.Guard.TheVariants.{Address, Division}
 use Rattle.sym_exec.specs.Symbolic.{AtAddress, AtDivision, register_tree, address_tree}
-use Rattle.sym_exec.proofs.Tickets.{later_self, goes_none, goes_on, interns_by, get_tree, known_on, known_put, hold_on, hold_put, hold_same, on_ok, ok_always}
 use Rattle.sym_exec.proofs.Chains.{chain-on, memory-on}
 use Rattle.sym_exec.proofs.Tracking.{tracks_on, tracks_guard, room_guard}
-use Rattle.sym_exec.proofs.Asked.{err_always, on_err, lacks_here}
 use Rattle.sym_exec.proofs.run.step.Goals as goal
 
 pub returns-in-Computes-clause-tracks : goal.returns-in-Computes-clause-tracks
 returns-in-Computes-clause-tracks c = λ t h.
-    rw c.in-Computes.is (on_ok c.computes.result (c.computes.ensures.hold t h.hold) (λ e. tracks_on c.computes.ensures.pass.later h e refl refl))
+    rw c.in-Computes.is (on_ok_weaker c.computes.result (λ e. tracks_on c.computes.ensures.pass.later h e refl refl) (c.computes.ensures.hold t h.hold))
 
 pub returns-in-Sets-clause-tracks : goal.returns-in-Sets-clause-tracks
 returns-in-Sets-clause-tracks c = λ t h.
-    rw c.in-Sets.is (on_ok c.put_leaf.result (c.put_leaf.ensures.hold t h.hold) (λ e. tracks_on c.put_leaf.ensures.pass.later h e refl refl))
+    rw c.in-Sets.is (on_ok_weaker c.put_leaf.result (λ e. tracks_on c.put_leaf.ensures.pass.later h e refl refl) (c.put_leaf.ensures.hold t h.hold))
 
 pub returns-in_ok-address-in-Loads-clause-tracks : goal.returns-in_ok-address-in-Loads-clause-tracks
 returns-in_ok-address-in-Loads-clause-tracks c = λ t h.
     let d = c.in_ok-address-in-Loads.ensures in
     let guard = Address c.in-Loads.width c.in_ok-address-in-Loads.address in
     let tree = AtAddress c.in-Loads.width (address_tree t c.in-Loads.base c.in-Loads.offset) in
-    let memory = memory-on c.args.lists.now.chain.stores.items t.memory d.pass.later h.memory in
-    rw c.in-Loads.is (tracks_guard guard tree d.pass.later h (d.hold t h.hold h.memory)
+    let memory = memory-on d.pass.later c.args.lists.now.chain.stores.items t.memory h.memory in
+    rw c.in-Loads.is (tracks_guard d.pass.later guard tree h (d.hold t h.hold h.memory)
     (rw (c.push_guard.ensures.chain, d.stores) memory) (refl, d.address t h.hold) c.push_guard.ensures.pushed refl)
 
 pub returns-in_ok-address-in-Stores-clause-tracks : goal.returns-in_ok-address-in-Stores-clause-tracks
@@ -31,14 +29,14 @@ returns-in_ok-address-in-Stores-clause-tracks c = λ t h.
     let d = c.in_ok-address-in-Stores.ensures in
     let guard = Address c.in-Stores.width c.in_ok-address-in-Stores.address in
     let tree = AtAddress c.in-Stores.width (address_tree t c.in-Stores.base c.in-Stores.offset) in
-    rw c.in-Stores.is (tracks_guard guard tree d.pass.later h (hold_same (hold_on d.pass.later h.hold) refl refl refl)
+    rw c.in-Stores.is (tracks_guard d.pass.later guard tree h (hold_same (hold_on d.pass.later h.hold) refl refl refl)
     (rw c.push_guard-in-Stores.ensures.chain (d.memory t h.hold h.memory))
     (refl, d.address t h.hold) c.push_guard-in-Stores.ensures.pushed refl)
 
 pub returns-in-Multiplies-clause-tracks : goal.returns-in-Multiplies-clause-tracks
 returns-in-Multiplies-clause-tracks c = λ t h.
     let held = rw (c.product_high.ensures, c.product_low.ensures) at (c.put_halves.ensures.hold t h.hold) in
-    rw c.in-Multiplies.is (on_ok c.put_halves.result held (λ e. tracks_on c.put_halves.ensures.pass.later h e refl refl))
+    rw c.in-Multiplies.is (on_ok_weaker c.put_halves.result (λ e. tracks_on c.put_halves.ensures.pass.later h e refl refl) held)
 
 pub returns-in_ok-put_halves-in-Divides-clause-tracks : goal.returns-in_ok-put_halves-in-Divides-clause-tracks
 returns-in_ok-put_halves-in-Divides-clause-tracks c = λ t h.
@@ -47,19 +45,19 @@ returns-in_ok-put_halves-in-Divides-clause-tracks c = λ t h.
     let y = still_tree later.extends (get_tree {t = t} h.hold c.get-divisor.ensures.value c.get-divisor.ensures.range) in
     let guard = Division c.in-Divides.sign c.get-dividend.result c.get-divisor.result in
     let tree = AtDivision c.in-Divides.sign (register_tree t c.in-Divides.a) (register_tree t c.in-Divides.b) in
-    let memory = memory-on c.args.lists.now.chain.stores.items t.memory later h.memory in
+    let memory = memory-on later c.args.lists.now.chain.stores.items t.memory h.memory in
     let held = rw (c.remainder_operator.ensures, c.quotient_operator.ensures) at (c.in_ok-put_halves-in-Divides.ensures.hold t h.hold) in
-    rw c.in-Divides.is (tracks_guard guard tree later h (hold_same held refl refl refl)
+    rw c.in-Divides.is (tracks_guard later guard tree h (hold_same held refl refl refl)
     (rw c.push_guard-in-Divides.ensures.chain memory) (refl, x, y)
     c.push_guard-in-Divides.ensures.pushed refl)
 
 pub returns-in-MovesHigh-clause-tracks : goal.returns-in-MovesHigh-clause-tracks
 returns-in-MovesHigh-clause-tracks c = λ t h.
-    rw c.in-MovesHigh.is (tracks_on (later_self c.args.terms.now.pass.now) h (hold_put {t = t} h.hold h.hold.hi c.set.ensures.value c.set.ensures.range c.set.ensures.count) refl refl)
+    rw c.in-MovesHigh.is (tracks_on (goes_none c.args.terms.now).later h (hold_put {t = t} h.hold h.hold.hi c.set.ensures.value c.set.ensures.range c.set.ensures.count) refl refl)
 
 pub returns-in-MovesLow-clause-tracks : goal.returns-in-MovesLow-clause-tracks
 returns-in-MovesLow-clause-tracks c = λ t h.
-    rw c.in-MovesLow.is (tracks_on (later_self c.args.terms.now.pass.now) h
+    rw c.in-MovesLow.is (tracks_on (goes_none c.args.terms.now).later h
     (hold_put {t = t} h.hold h.hold.lo c.set-in-MovesLow.ensures.value c.set-in-MovesLow.ensures.range c.set-in-MovesLow.ensures.count) refl refl)
 
 pub returns-in-Computes-clause-chain : goal.returns-in-Computes-clause-chain
@@ -156,7 +154,7 @@ returns-in-Computes-clause-absent c = λ t h.
 
 pub returns-in-Sets-clause-absent : goal.returns-in-Sets-clause-absent
 returns-in-Sets-clause-absent c = λ t h.
-    rw c.in-Sets.is (on_err c.put_leaf.result c.put_leaf.ensures.absent lacks_here)
+    rw c.in-Sets.is (on_err_weaker c.put_leaf.result lacks_here c.put_leaf.ensures.absent)
 
 pub returns-in-Multiplies-clause-absent : goal.returns-in-Multiplies-clause-absent
 returns-in-Multiplies-clause-absent c = λ t h.

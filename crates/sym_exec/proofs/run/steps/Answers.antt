@@ -1,12 +1,11 @@
 use Rattle.std.proofs.Common.{◌∙◌, ◌+◌, map, drop, take, true, false, rules, arith, sym, ap, length-take}
 use Rattle.mips_isa.specs.Actions.{nop, action_of}
 use Rattle.sym_exec.specs.Growth.{growth_by_all, all_stores}
-use Rattle.sym_exec.proofs.Nops.{nop_is, needed_more, needed_few}
+use Rattle.sym_exec.proofs.Shared.{nop_is, needed_more, needed_few}
 use Rattle.sym_exec.specs.Symbolic.{trees_after}
-use Rattle.sym_exec.proofs.Tickets.{goes_on, goes_more, interns_by}
+use Rattle.sym_exec.proofs.Tickets.{goes_on, goes_more, interns_by, err_always, lacks_left, lacks_right}
 use Rattle.sym_exec.proofs.Tracking.{actions_here}
 use Rattle.sym_exec.specs.Asked.{asked_by}
-use Rattle.sym_exec.proofs.Asked.{err_always, lacks_left, lacks_right}
 use Rattle.sym_exec.proofs.run.steps.Goals as goal
 
 pub loop-inst-preserved-then-is_nop : goal.loop-inst-preserved-then-is_nop

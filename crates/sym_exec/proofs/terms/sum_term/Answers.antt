@@ -1,6 +1,5 @@
 use Rattle.std.proofs.Common.{◌∙◌, sym}
-use Rattle.sym_exec.proofs.MipsTerms.{still_seen, still_tree}
-use Rattle.sym_exec.proofs.Tickets.{goes_on, goes_more, interns_by}
+use Rattle.sym_exec.proofs.Tickets.{still_seen, still_tree, goes_on, goes_more, interns_by}
 use Rattle.sym_exec.proofs.terms.sum_term.Goals as goal
 
 pub constant_sum_term-requires : goal.constant_sum_term-requires

@@ -1,5 +1,5 @@
 use Rattle.term_labels.specs.Trees.{none}
-use Rattle.sym_exec.proofs.Asked.{err_always}
+use Rattle.sym_exec.proofs.Tickets.{err_always}
 use Rattle.sym_exec.proofs.interner.Interner.leaf.Goals as goal
 
 pub returns-clause-tree : goal.returns-clause-tree

@@ -1,9 +1,7 @@
 use Rattle.std.proofs.Common.{refl, rules}
-use Rattle.sym_exec.proofs.MipsTerms.{still_tree}
+use Rattle.sym_exec.proofs.Tickets.{still_tree, later_more, goes_on, goes_more, interns_by, hold_on, known_on, known_put, hold_put, hold_same, err_always, lacks_here, lacks_next}
 use Rattle.sym_exec.specs.Symbolic.{address_tree}
-use Rattle.sym_exec.proofs.Tickets.{later_more, goes_on, goes_more, interns_by, hold_on, known_on, known_put, hold_put, hold_same}
 use Rattle.sym_exec.proofs.Chains.{chain-on, memory-on}
-use Rattle.sym_exec.proofs.Asked.{err_always, lacks_here, lacks_next}
 use Rattle.sym_exec.proofs.registers.TermRegisters.loads.Goals as goal
 
 pub load_term-requires-clause-chain : goal.load_term-requires-clause-chain
@@ -18,7 +16,7 @@ pub returns-clause-hold : goal.returns-clause-hold
 returns-clause-hold c = λ t h m.
     let before = c.in_ok-address.ensures.pass.later in
     let all = later_more before c.in_ok-value.ensures.pass.later in
-    let value = c.in_ok-value.ensures.tree t.memory (address_tree t c.args.access.base c.args.access.offset) (memory-on c.args.chain.now.stores.items t.memory before m)
+    let value = c.in_ok-value.ensures.tree t.memory (address_tree t c.args.access.base c.args.access.offset) (memory-on before c.args.chain.now.stores.items t.memory m)
     (c.in_ok-address.ensures.tree t h) in
     let put = hold_put {t = t} (hold_on all h) value c.set.ensures.value c.set.ensures.range c.set.ensures.count in
     hold_same (rw c.reg.ensures.value at put) refl refl refl
@@ -39,4 +37,4 @@ pub returns-in_err-value-clause-absent : goal.returns-in_err-value-clause-absent
 returns-in_err-value-clause-absent c = λ t h m.
     let address = address_tree t c.args.access.base c.args.access.offset in
     err_always _ (lacks_next address (lacks_here (c.in_err-value.ensures.absent t.memory address
-    (memory-on c.args.chain.now.stores.items t.memory c.in_ok-address.ensures.pass.later m) (c.in_ok-address.ensures.tree t h))))
+    (memory-on c.in_ok-address.ensures.pass.later c.args.chain.now.stores.items t.memory m) (c.in_ok-address.ensures.tree t h))))

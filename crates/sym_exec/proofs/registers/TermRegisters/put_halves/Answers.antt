@@ -1,8 +1,6 @@
 use Rattle.std.proofs.Common.{rules}
-use Rattle.sym_exec.proofs.MipsTerms.{still_seen, still_tree}
+use Rattle.sym_exec.proofs.Tickets.{still_seen, still_tree, later_more, goes_on, goes_more, interns_by, hold_on, known_on, get_seen, get_tree, err_always, lacks_here, lacks_next}
 use Rattle.sym_exec.specs.Standing.{Hold, Known, with_halves}
-use Rattle.sym_exec.proofs.Tickets.{later_more, goes_on, goes_more, interns_by, hold_on, known_on, get_seen, get_tree}
-use Rattle.sym_exec.proofs.Asked.{err_always, lacks_here, lacks_next}
 use Rattle.sym_exec.proofs.registers.TermRegisters.put_halves.Goals as goal
 
 pub op_term-requires-2-clause-a : goal.op_term-requires-2-clause-a

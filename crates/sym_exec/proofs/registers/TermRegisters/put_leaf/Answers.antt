@@ -1,5 +1,4 @@
-use Rattle.sym_exec.proofs.MipsTerms.{tree_seen}
-use Rattle.sym_exec.proofs.Tickets.{hold_on, known_on, known_put, hold_put}
+use Rattle.sym_exec.proofs.Tickets.{tree_seen, hold_on, known_on, known_put, hold_put}
 use Rattle.sym_exec.proofs.registers.TermRegisters.put_leaf.Goals as goal
 
 pub returns-clause-known : goal.returns-clause-known

@@ -1,9 +1,7 @@
 use Rattle.sym_terms.specs.declared.label.Label.TheVariants.{Load}
 use Rattle.sym_terms.specs.Trees.{none, more}
-use Rattle.sym_exec.proofs.MipsTerms.{still_tree, still_seen}
+use Rattle.sym_exec.proofs.Tickets.{still_tree, still_seen, goes_on, goes_more, interns_by, err_always}
 use Rattle.sym_exec.proofs.Chains.{chain-on}
-use Rattle.sym_exec.proofs.Tickets.{goes_on, goes_more, interns_by}
-use Rattle.sym_exec.proofs.Asked.{err_always}
 use Rattle.sym_exec.proofs.Parts.{lacks_first}
 use Rattle.sym_exec.proofs.stores.StoreChain.load_term.Goals as goal
 
