@@ -16,25 +16,21 @@ two_or_one : (b : Bool) → (if b then 2 else 1) ≤ 2
 two_or_one true = omega arith
 two_or_one false = omega arith
 
-growth_low : (a : Action) (k : ℕ) → growth_by a k ≤ k + 3
-growth_low (Computes d op a (Held r)) k = let low = two_or_one (is_addition op) in omega (arith, low)
-growth_low (Computes d op a (Fixed w)) k = let low = two_or_one (is_addition op) in omega (arith, low)
-growth_low _ k = omega arith
-
-stores_low : (a : Action) (k : ℕ) → stores_after a k ≤ suc k
-stores_low (Computes d op a b) k = omega arith
-stores_low _ k = omega arith
+action_low : (a : Action) (k : ℕ) → (growth_by a k ≤ k + 3) × (stores_after a k ≤ suc k)
+action_low (Computes d op a (Held r)) k = omega (arith, two_or_one (is_addition op))
+action_low (Computes d op a (Fixed w)) k = omega (arith, two_or_one (is_addition op))
+action_low _ k = omega arith
 
 all_stores_low : (acts : List Action) (k : ℕ) → all_stores acts k ≤ k + length acts
 all_stores_low [] k = omega arith
-all_stores_low (a ∷ rest) k = omega (arith, stores_low a k, all_stores_low rest (stores_after a k))
+all_stores_low (a ∷ rest) k = omega (arith, action_low a k, all_stores_low rest (stores_after a k))
 
 all_low : (acts : List Action) (k m : ℕ) → k + length acts ≤ m → growth_by_all acts k ≤ length acts * (m + 3)
 all_low [] k m few = omega arith
 all_low (a ∷ rest) k m few =
-    let below = all_low rest (stores_after a k) m (omega (arith, stores_low a k, few)) in
+    let below = all_low rest (stores_after a k) m (omega (arith, action_low a k, few)) in
     let split : suc (length rest) * (m + 3) ≡ (m + 3) + length rest * (m + 3) = grind arith in
-    omega (arith, growth_low a k, few, below, split)
+    omega (arith, action_low a k, few, below, split)
 
 shape_low : (shape : Shape) → growth_by_shape shape ≤ 1
 shape_low (Goes t) = omega arith

@@ -1,54 +1,38 @@
 -- What a node that was read says of its tree.
-use Rattle.std.proofs.Common.{◌≡◌, ◌≢◌, ℕ, ◌+◌, ◌<◌, ◌≤◌, ◌^◌, true, false, List, [], ◌∷◌, length}
-use Rattle.std.proofs.Common.{slice_index_or, Some, None, refl, sym, ap, ap₂, ◌∙◌, subst, true≢false, arith}
+use Rattle.std.proofs.Common.{◌≡◌, ℕ, ◌+◌, ◌<◌, ◌≤◌, ◌^◌, true, false, List, [], ◌∷◌, length}
+use Rattle.std.proofs.Common.{slice_index_or, Some, None, refl, sym, ap, ap₂, ◌∙◌, true≢false, arith}
 use Rattle.words.specs.declared.operator.Operator.TheVariants.{Addu}
 use Rattle.words.specs.Words.{wrap}
 use Rattle.sym_terms.specs.declared.label.Label.{Label}
 use Rattle.sym_terms.specs.declared.label.Label.TheVariants.{Op}
+use Rattle.term_labels.specs.Trees.{tree_count}
+use Rattle.sym_terms.specs.Labels.{label_coding}
 use Rattle.sym_terms.specs.Trees.{Tree, Trees, node, none, more, binary}
 use Rattle.sym_terms.specs.NormalForms.{label_constant, constant_of, is_sum, at_base, sum_address, address_of, tree_plus, const_tree, op_tree}
 use Rattle.sym_terms.proofs.Sameness.{operator-is}
 use Rattle.term_table.specs.Passes.{PassState}
+use Rattle.term_table.proofs.TermCallers.{count_of}
 use Rattle.sym_exec.specs.MipsTerms.{HasSeen, HasTree, HaveTrees, IsNode}
 use Rattle.sym_exec.proofs.Tickets.{still_tree, one_tree}
 use Rattle.sym_exec.specs.declared.address.TermAddress.{TermAddress}
 use Rattle.sym_exec.specs.Standing.{Later, IsAddress, AreSummands}
 
 -- a leaf's constant, and none where there are children
-pub constant-leaf : {p : PassState} {l : Label} (ks : List ℕ) {x : Tree} → IsNode p l ks x → length ks ≤ 0 → constant_of x ≡ label_constant l
-constant-leaf {p} {l} (k ∷ ks) {x} n few = absurd (omega (arith, few))
-constant-leaf {p} {l} [] {x} n few = go n.trees n.tree n.have
+pub constant-node : {p : PassState} {l : Label} (ks : List ℕ) {x : Tree} → IsNode p l ks x
+    → (length ks ≤ 0 → constant_of x ≡ label_constant l) × (0 < length ks → constant_of x ≡ None)
+constant-node {p} {l} ks n = rw n.tree (go n.trees (count_of label_coding p ks n.trees n.have))
   where
-    go : (ts : Trees) → x ≡ node l ts → HaveTrees p [] ts → constant_of x ≡ label_constant l
-    go none e h = ap constant_of e
-    go (more y ys) e h = absurd h
-
-pub constant-none : {p : PassState} {l : Label} (ks : List ℕ) {x : Tree} → IsNode p l ks x → 0 < length ks → constant_of x ≡ None
-constant-none {p} {l} [] {x} n some = absurd (omega (arith, some))
-constant-none {p} {l} (k ∷ ks) {x} n some = go n.trees n.tree n.have
-  where
-    go : (ts : Trees) → x ≡ node l ts → HaveTrees p (k ∷ ks) ts → constant_of x ≡ None
-    go none e h = absurd h
-    go (more y ys) e h = ap constant_of e
+    go : (ts : Trees) → tree_count ts ≡ length ks → (length ks ≤ 0 → constant_of (node l ts) ≡ label_constant l) × (0 < length ks → constant_of (node l ts) ≡ None)
+    go none e = ((λ _. refl), λ some. absurd (omega (arith, e, some)))
+    go (more y ys) e = ((λ few. absurd (omega (arith, e, few))), λ _. refl)
 
 -- what is no sum of two terms is a base itself
-pub address-other : {p : PassState} {l : Label} (ks : List ℕ) {x : Tree} → IsNode p l ks x → is_sum l ≡ false → address_of x ≡ at_base x
-address-other {p} {l} ks {x} n e = rw n.tree (at n.trees)
+pub address-other : {p : PassState} {l : Label} (ks : List ℕ) {x : Tree} → IsNode p l ks x → (length ks ≡ 2 → is_sum l ≡ false) → address_of x ≡ at_base x
+address-other {p} {l} ks n plain = rw n.tree (go n.trees (λ two. plain (sym (count_of label_coding p ks n.trees n.have) ∙ two)))
   where
-    at : (ts : Trees) → address_of (node l ts) ≡ at_base (node l ts)
-    at (more a (more b none)) = ap (λ t. sum_address t (binary l a b) a (constant_of b)) e
-    at _ = refl
-
-pub address-few : {p : PassState} {l : Label} (ks : List ℕ) {x : Tree} → IsNode p l ks x → length ks ≢ 2 → address_of x ≡ at_base x
-address-few {p} {l} ks {x} n many = go ks many n.trees n.tree n.have
-  where
-    go : (js : List ℕ) → length js ≢ 2 → (ts : Trees) → x ≡ node l ts → HaveTrees p js ts → address_of x ≡ at_base x
-    go js other (more a (more b (more c rest))) is h = subst (λ y. address_of y ≡ at_base y) (sym is) refl
-    go (j ∷ k ∷ []) other (more a (more b none)) is h = absurd (other refl)
-    go [] other (more a (more b none)) is h = absurd h
-    go (j ∷ []) other (more a (more b none)) is h = absurd h.1
-    go (j ∷ k ∷ i ∷ rest) other (more a (more b none)) is h = absurd h.1.1
-    go js other _ is h = subst (λ y. address_of y ≡ at_base y) (sym is) refl
+    go : (ts : Trees) → (tree_count ts ≡ 2 → is_sum l ≡ false) → address_of (node l ts) ≡ at_base (node l ts)
+    go (more a (more b none)) plain = ap (λ t. sum_address t (binary l a b) a (constant_of b)) (plain refl)
+    go _ plain = refl
 
 sum-is : (l : Label) → is_sum l ≡ true → l ≡ Op Addu
 sum-is (Op op) h = ap Op (operator-is op Addu h)
@@ -67,19 +51,14 @@ summands-of {p} {l} {left} {right} {x} n e = go n.trees n.tree n.have
 -- the address of a sum, by what its right side is
 pub address-sum : {p : PassState} {left right : ℕ} {x : Tree} (s : AreSummands p left right x) (c : ℕ) → c < 2 ^ 32 → constant_of s.b ≡ Some c
     → address_of x ≡ record { base = s.a; offset = c }
-address-sum {p} {left} {right} {x} s c low e =
-    let same : wrap c ≡ c = omega (arith, low) in
-    ap address_of s.sum
-    ∙ (ap (λ o. sum_address true (binary (Op Addu) s.a s.b) s.a o) e ∙ ap (λ n. record { base = s.a; offset = n }) same)
+address-sum s c low e = let same : wrap c ≡ c = omega (arith, low) in ap address_of s.sum ∙ rw (e, same) refl
 
 pub address-none : {p : PassState} {left right : ℕ} {x : Tree} (s : AreSummands p left right x) → constant_of s.b ≡ None → address_of x ≡ at_base x
-address-none {p} {left} {right} {x} s e =
-    ap address_of s.sum ∙ (ap (λ o. sum_address true (binary (Op Addu) s.a s.b) s.a o) e ∙ ap at_base (sym s.sum))
+address-none s e = ap address_of s.sum ∙ rw e (ap at_base (sym s.sum))
 
 pub address-base : {p q : PassState} {t : ℕ} {x : Tree} → Later p q → HasTree p t x → address_of x ≡ at_base x
     → IsAddress q (record { base = t; offset = 0 }) (address_of x)
-address-base {p} {q} {t} {x} e h is =
-    rw is (record { base = still_tree e.extends h; offset = refl })
+address-base e h is = rw is (record { base = still_tree e.extends h; offset = refl })
 
 -- a list of two
 pub two-of : (xs : List ℕ) (a b : ℕ) → 2 ≤ length xs → length xs < 3 → a ≡ slice_index_or xs 0 a → b ≡ slice_index_or xs 1 b → xs ≡ a ∷ b ∷ []
@@ -96,13 +75,9 @@ address-is x c = refl
 -- an address that was read is that of the tree which the ticket has later
 pub address-later : {p q : PassState} {t : ℕ} {a : TermAddress} → HasSeen p t → Later p q
     → ((x : Tree) → HasTree p t x → IsAddress q a (address_of x)) → (b : Tree) → HasTree q t b → IsAddress q a (address_of b)
-address-later {p} {q} {t} {a} seen on at b h =
-    subst (λ y. IsAddress q a (address_of y)) (one_tree (still_tree on.extends seen.has) h) (at seen.term seen.has)
+address-later seen on at b h = rw (← one_tree (still_tree on.extends seen.has) h) (at seen.term seen.has)
 
 -- the address of a sum with a constant, by the sum's ticket
 pub sum-reached : {p : PassState} {base t c : ℕ} {x : Tree} → HasTree p base x → c < 2 ^ 32 → HasTree p t (binary (Op Addu) x (const_tree c))
     → (b : Tree) → HasTree p t b → IsAddress p (record { base = base; offset = c }) (address_of b)
-sum-reached {p} {base} {t} {c} {x} has low sum b h =
-    let same : wrap c ≡ c = omega (arith, low) in
-    subst (λ y. IsAddress p (record { base = base; offset = c }) (address_of y)) (one_tree sum h)
-    (record { base = has; offset = sym same })
+sum-reached {c = c} has low sum b h = let same : wrap c ≡ c = omega (arith, low) in rw (← one_tree sum h) (record { base = has; offset = sym same })

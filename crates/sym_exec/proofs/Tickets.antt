@@ -132,7 +132,7 @@ module _ {p q : PassState} (e : Later p q) where
     guards = guards_on h.guards;
   }
 
-contains_split : {A R : Type 0} (y x : A) (xs : List A) → (y ≡ x → R) → (Contains xs x → R) → Contains (y ∷ xs) x → R
+pub contains_split : {A R : Type 0} (y x : A) (xs : List A) → (y ≡ x → R) → (Contains xs x → R) → Contains (y ∷ xs) x → R
 contains_split y x xs new old (zero, lt, e) = new e
 contains_split y x xs new old (suc k, lt, e) = old (k, omega (arith, lt), e)
 

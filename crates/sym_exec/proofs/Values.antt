@@ -1,5 +1,6 @@
 -- The trees that instructions leave stand for the state that the instructions leave.
-use Rattle.std.proofs.Common.{◌≡◌, ◌^◌, ℕ, zero, suc, ◌<◌, true, false, List, [], ◌∷◌, Contains, refl, sym, ap, ap₂, ◌∙◌, subst, arith}
+use Rattle.std.proofs.Common.{◌≡◌, ◌^◌, ℕ, zero, suc, ◌<◌, Bool, true, false, List, [], ◌∷◌, Contains, refl, sym, ap, ap₂, ◌∙◌, arith}
+use mathlib.Core.Logic.{◌↔◌}
 use Rattle.words.specs.declared.operator.Operator.{Operator}
 use Rattle.words.specs.declared.operator.Operator.TheVariants.{Addu}
 use Rattle.words.specs.Words.{wrap}
@@ -9,7 +10,7 @@ use Rattle.mips_isa.specs.declared.action.Operand.TheVariants.{Held, Fixed}
 use Rattle.mips_isa.specs.declared.action.Action.{Action}
 use Rattle.mips_isa.specs.declared.action.Action.TheVariants.{Computes, Sets, Loads, Stores, Multiplies, Divides, MovesHigh, MovesLow}
 use Rattle.mips_isa.specs.States.{State, IsWords, is_register, read, put, is_open, load_at, store_at}
-use Rattle.mips_isa.specs.Actions.{operand, address, is_safe, state_after, product_high, product_low, quotient_operator, remainder_operator}
+use Rattle.mips_isa.specs.Actions.{operand, is_safe, state_after, product_high, product_low, quotient_operator, remainder_operator}
 use Rattle.mips_isa.proofs.Registers.{put-value, put_outside}
 use Rattle.mblock.specs.BlockMeaning.{Shape, Calls, Prints, Halts, exit_puts}
 use Rattle.mblock.proofs.Runs.{total, AllSafe}
@@ -19,6 +20,7 @@ use Rattle.sym_terms.specs.Trees.{Tree, leaf}
 use Rattle.sym_terms.specs.Values.{tree_word, tree_memory}
 use Rattle.sym_terms.specs.NormalForms.{const_tree, op_tree}
 use Rattle.sym_terms.proofs.ValueLaws.{op_tree-value, load_tree-value, store_tree-value}
+use Rattle.sym_exec.proofs.Tickets.{contains_split}
 use Rattle.sym_exec.specs.Symbolic.{GuardTree, is_good, TreeState, register_tree, operand_tree, address_tree, trees_after, all_trees}
 
 -- the state that trees stand for
@@ -40,14 +42,9 @@ module _ (s : State) (link : ℕ) (words : IsWords s) (low : link < 2 ^ 32) wher
   operand-value t (Held r) = register_tree-value t r
   operand-value t (Fixed w) = refl
 
-  address-value : (t : TreeState) (base offset : ℕ) → tree_word (address_tree t base offset) s link ≡ address (values s link t) base offset
-  address-value t base offset =
-      op_tree-value Addu (register_tree t base) (const_tree offset) s link words low ∙ ap (λ x. op_value Addu x (wrap offset)) (register_tree-value t base)
-
-  two-value : (op : Operator) (t : TreeState) (a b : ℕ)
-      → tree_word (op_tree op (register_tree t a) (register_tree t b)) s link ≡ op_value op (read 0 (values s link t).regs a) (read 0 (values s link t).regs b)
-  two-value op t a b = op_tree-value op (register_tree t a) (register_tree t b) s link words low
-      ∙ ap₂ (op_value op) (register_tree-value t a) (register_tree-value t b)
+  value-at : (op : Operator) (t : TreeState) (a : ℕ) (x : Operand)
+      → tree_word (op_tree op (register_tree t a) (operand_tree t x)) s link ≡ op_value op (read 0 (values s link t).regs a) (operand (values s link t) x)
+  value-at op t a x = op_tree-value op (register_tree t a) (operand_tree t x) s link words low ∙ ap₂ (op_value op) (register_tree-value t a) (operand-value t x)
 
   regs_step : (t : TreeState) (d : ℕ) (v : Tree) (w : ℕ) → tree_word v s link ≡ w
       → values s link (record t { regs = put t.regs d v }) ≡ record (values s link t) { regs = put (values s link t).regs d w }
@@ -55,22 +52,20 @@ module _ (s : State) (link : ℕ) (words : IsWords s) (low : link < 2 ^ 32) wher
 
   -- one action
   pub step-value : (a : Action) (t : TreeState) → values s link (trees_after a t) ≡ state_after a (values s link t)
-  step-value (Computes d op a b) t =
-      regs_step t d _ _
-      (op_tree-value op (register_tree t a) (operand_tree t b) s link words low ∙ ap₂ (op_value op) (register_tree-value t a) (operand-value t b))
+  step-value (Computes d op a b) t = regs_step t d _ _ (value-at op t a b)
   step-value (Sets d w) t = regs_step t d _ _ refl
   step-value (Loads w d base offset) t =
       regs_step t d _ _
       (load_tree-value w t.memory (address_tree t base offset) s link words low
-      ∙ ap (load_at w s.mapped (tree_memory t.memory s link)) (address-value t base offset))
+      ∙ ap (load_at w s.mapped (tree_memory t.memory s link)) (value-at Addu t base (Fixed offset)))
   step-value (Stores w r base offset) t =
       ap (λ m. record (values s link t) { memory = m })
       (store_tree-value w t.memory (address_tree t base offset) (register_tree t r) s link words low
-      ∙ ap₂ (store_at w s.mapped (tree_memory t.memory s link)) (address-value t base offset) (register_tree-value t r))
+      ∙ ap₂ (store_at w s.mapped (tree_memory t.memory s link)) (value-at Addu t base (Fixed offset)) (register_tree-value t r))
   step-value (Multiplies sign a b) t =
-      ap₂ (λ h l. record (values s link t) { hi = h; lo = l }) (two-value (product_high sign) t a b) (two-value (product_low sign) t a b)
-  step-value (Divides sign a b) t = ap₂ (λ h l. record (values s link t) { hi = h; lo = l }) (two-value (remainder_operator sign) t a b)
-      (two-value (quotient_operator sign) t a b)
+      ap₂ (λ h l. record (values s link t) { hi = h; lo = l }) (value-at (product_high sign) t a (Held b)) (value-at (product_low sign) t a (Held b))
+  step-value (Divides sign a b) t =
+      ap₂ (λ h l. record (values s link t) { hi = h; lo = l }) (value-at (remainder_operator sign) t a (Held b)) (value-at (quotient_operator sign) t a (Held b))
   step-value (MovesHigh d) t = regs_step t d _ _ refl
   step-value (MovesLow d) t = regs_step t d _ _ refl
 
@@ -91,41 +86,30 @@ module _ (s : State) (link : ℕ) (words : IsWords s) (low : link < 2 ^ 32) wher
   abbrev pub AllGood : List GuardTree → Type 0
   AllGood gs = (g : GuardTree) → Contains gs g → is_good s link g ≡ true
 
-  pub good_head : (g : GuardTree) (gs : List GuardTree) → AllGood (g ∷ gs) → is_good s link g ≡ true
-  good_head g gs h = h g (0, omega arith, refl)
-
-  pub good_tail : (g : GuardTree) (gs : List GuardTree) → AllGood (g ∷ gs) → AllGood gs
-  good_tail g gs h x (k, lt, e) = h x (suc k, omega arith, e)
-
-  pub good_more : (g : GuardTree) (gs : List GuardTree) → is_good s link g ≡ true → AllGood gs → AllGood (g ∷ gs)
-  good_more g gs e h x (zero, lt, p) = subst (λ y. is_good s link y ≡ true) p e
-  good_more g gs e h x (suc k, lt, p) = h x (k, omega arith, p)
+  good_cons : (g : GuardTree) (gs : List GuardTree) {b : Bool} → is_good s link g ≡ b → AllGood (g ∷ gs) ↔ ((b ≡ true) × AllGood gs)
+  good_cons g gs e = (
+    (λ h. (sym e ∙ h g (0, omega arith, refl), λ x (k, lt, p). h x (suc k, omega arith, p))),
+    λ h x c. contains_split g x gs (λ is. rw (← is) (e ∙ h.0)) (h.1 x) c,
+  )
 
   -- the guards of one action say that it is safe
-  pub guards_down : (a : Action) (t : TreeState) → AllGood (trees_after a t).guards → (is_safe a (values s link t) ≡ true) × AllGood t.guards
-  guards_down (Loads w d base offset) t h = (ap (is_open w s.mapped) (sym (address-value t base offset)) ∙ good_head _ t.guards h, good_tail _ t.guards h)
-  guards_down (Stores w r base offset) t h = (ap (is_open w s.mapped) (sym (address-value t base offset)) ∙ good_head _ t.guards h, good_tail _ t.guards h)
-  guards_down (Divides sign a b) t h =
-      (ap₂ (has_quotient sign) (sym (register_tree-value t a)) (sym (register_tree-value t b)) ∙ good_head _ t.guards h, good_tail _ t.guards h)
-  guards_down _ t h = (refl, h)
-
-  pub guards_up : (a : Action) (t : TreeState) → is_safe a (values s link t) ≡ true → AllGood t.guards → AllGood (trees_after a t).guards
-  guards_up (Loads w d base offset) t e h = good_more _ t.guards (ap (is_open w s.mapped) (address-value t base offset) ∙ e) h
-  guards_up (Stores w r base offset) t e h = good_more _ t.guards (ap (is_open w s.mapped) (address-value t base offset) ∙ e) h
-  guards_up (Divides sign a b) t e h = good_more _ t.guards (ap₂ (has_quotient sign) (register_tree-value t a) (register_tree-value t b) ∙ e) h
-  guards_up _ t e h = h
+  guards_of : (a : Action) (t : TreeState) → AllGood (trees_after a t).guards ↔ ((is_safe a (values s link t) ≡ true) × AllGood t.guards)
+  guards_of (Loads w d base offset) t = good_cons _ t.guards (ap (is_open w s.mapped) (value-at Addu t base (Fixed offset)))
+  guards_of (Stores w r base offset) t = good_cons _ t.guards (ap (is_open w s.mapped) (value-at Addu t base (Fixed offset)))
+  guards_of (Divides sign a b) t = good_cons _ t.guards (ap₂ (has_quotient sign) (register_tree-value t a) (register_tree-value t b))
+  guards_of _ t = ((λ h. (refl, h)), λ h. h.1)
 
   pub all_down : (acts : List Action) (t : TreeState) → AllGood (all_trees acts t).guards → AllSafe acts (values s link t) × AllGood t.guards
   all_down [] t h = (tt, h)
   all_down (a ∷ rest) t h =
       let below = all_down rest (trees_after a t) h in
-      let here = guards_down a t below.1 in
-      ((here.0, subst (AllSafe rest) (step-value a t) below.0), here.1)
+      let here = (guards_of a t).0 below.1 in
+      ((here.0, rw (← step-value a t) below.0), here.1)
 
   pub all_up : (acts : List Action) (t : TreeState) → AllSafe acts (values s link t) → AllGood t.guards → AllGood (all_trees acts t).guards
   all_up [] t safe h = h
   all_up (a ∷ rest) t safe h =
-      all_up rest (trees_after a t) (subst (AllSafe rest) (sym (step-value a t)) safe.1) (guards_up a t safe.0 h)
+      all_up rest (trees_after a t) (rw (step-value a t) safe.1) ((guards_of a t).1 (safe.0, h))
 
 -- what stands outside the registers stays
 pub after_outside : (a : Action) (t : TreeState) (r : ℕ) → is_register r ≡ false → (trees_after a t).regs r ≡ t.regs r

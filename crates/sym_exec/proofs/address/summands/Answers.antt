@@ -1,13 +1,13 @@
-use Rattle.std.proofs.Common.{◌≡◌, ◌∙◌, sym, false, rules}
+use Rattle.std.proofs.Common.{◌≡◌, ◌≢◌, ◌∙◌, length, sym, false, rules}
 use Rattle.sym_terms.specs.NormalForms.{is_sum}
-use Rattle.sym_exec.proofs.Reading.{address-other, address-few, summands-of, two-of}
+use Rattle.sym_exec.proofs.Reading.{address-other, summands-of, two-of}
 use Rattle.sym_exec.proofs.address.summands.Goals.{in_default-via-then-as_slice-lt2, in_default-via-else-as_slice-lt2+else-this-lt3}
 use Rattle.sym_exec.proofs.address.summands.Goals as goal
 
 pub returns-then-not-is_sum_label-clause-none : goal.returns-then-not-is_sum_label-clause-none
 returns-then-not-is_sum_label-clause-none c = λ x h.
     let other : is_sum c.read-node.result.label ≡ false = search rules in
-    address-other c.read-node.result.children.items (c.read-node.ensures.tree x h) other
+    address-other c.read-node.result.children.items (c.read-node.ensures.tree x h) (λ _. other)
 
 pub returns-in-len2-clause-some : goal.returns-in-len2-clause-some
 returns-in-len2-clause-some c = λ x h.
@@ -16,5 +16,6 @@ returns-in-len2-clause-some c = λ x h.
 
 pub returns-clause-none : goal.returns-clause-none
 returns-clause-none c = λ x h.
-    address-few c.read-node.result.children.items (c.read-node.ensures.tree x h)
-    (elim c.in_default.branch [ in_default-via-then-as_slice-lt2 w ↦ search rules | in_default-via-else-as_slice-lt2+else-this-lt3 w ↦ search rules ])
+    let many : length c.read-node.result.children.items ≢ 2 =
+    elim c.in_default.branch [ in_default-via-then-as_slice-lt2 w ↦ search rules | in_default-via-else-as_slice-lt2+else-this-lt3 w ↦ search rules ] in
+    address-other c.read-node.result.children.items (c.read-node.ensures.tree x h) (λ two. absurd (many two))
