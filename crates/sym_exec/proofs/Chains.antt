@@ -123,9 +123,8 @@ chain-push {p} {q} {c} k {n} u e h len inside made has stores memories =
 pub memory-insert : {p : PassState} {b v : Tree} (s : Stored) (n u : Tree) (i : ℕ) (xs : List Stored) → MakeMemory p (take i xs) n → HasTree p s.address b
     → HasTree p s.value v → IsAddress p (address_of_store s) (address_of b) → LeadsTo p (ternary (Store s.width) n b v) (drop i xs) u → MakeMemory p (insert xs i s) u
 memory-insert {p} {b} {v} s n u i xs made hb hv at leads =
-    let makes : Makes p s n (ternary (Store s.width) n b v) =
-    record { address = b; value = v; has_address = hb; has_value = hv; at = at; tree = refl } in
-    leads-join p (leaf Mem0) (take i xs) (s ∷ drop i xs) n u made (ternary (Store s.width) n b v, makes, leads)
+    leads-join p (leaf Mem0) (take i xs) (s ∷ drop i xs) n u made
+    (ternary (Store s.width) n b v, record { address = b; value = v; has_address = hb; has_value = hv; at = at; tree = refl }, leads)
 
 pub chain-insert : {p : PassState} {c d : StoreChain} (i : ℕ) (s : Stored) (u : Tree) → IsChain p c → i ≤ length c.stores.items
     → d.stores.items ≡ insert c.stores.items i s → d.memories.items ≡ take (i + 1) c.memories.items → MakeMemory p d.stores.items u → IsChain p d
@@ -167,15 +166,11 @@ same-bases {p} {t} {u} {x} {y} legal h k = dite (ℕ_discrete t u)
 -- the tests by tickets are those by trees
 pub passes-is : {p : PassState} {s : Stored} {at : TermAddress} {t u : Tree} (w : Width) (b : Tree) → HasLegalHistory p → (m : Makes p s t u)
     → IsAddress p at (address_of b) → is_passed (Store s.width) (address_of m.address) w (address_of b) ≡ passes s w at
-passes-is {p} {s} {at} {t} {u} w b legal m h =
-    ap₂ (λ x y. x && y) (same-bases legal m.at.base h.base)
-    (ap₂ (λ x y. are_disjoint s.width x w y) (sym m.at.offset) (sym h.offset))
+passes-is w b legal m h = rw (same-bases legal m.at.base h.base, m.at.offset, h.offset) refl
 
 pub passes_inward-is : {p : PassState} {s : Stored} {at : TermAddress} {t u : Tree} (w : Width) (b : Tree) → HasLegalHistory p → (m : Makes p s t u)
     → IsAddress p at (address_of b) → is_passed_inward (Store s.width) (address_of m.address) w (address_of b) ≡ passes_inward s w at
-passes_inward-is {p} {s} {at} {t} {u} w b legal m h =
-    ap₂ (λ x y. x && y) (passes-is w b legal m h)
-    (ap₂ (λ x y. int_lt (signed x) (signed y)) (sym h.offset) (sym m.at.offset))
+passes_inward-is w b legal m h = rw (passes-is w b legal m h, m.at.offset, h.offset) refl
 
 -- a load doesn't pass the last store, or it does and sees the memory before it
 pub load-at : {p : PassState} {at : TermAddress} (n : Tree) (c : Bool) (xs : List Stored) (s : Stored) (w : Width) (b : Tree) → HasLegalHistory p

@@ -1,5 +1,5 @@
 -- Tickets go on standing for their trees, also after a write, and one of the trees that are asked for isn't there.
-use Rattle.std.proofs.Common.{◌≡◌, ◌≢◌, ℕ, zero, suc, ◌+◌, ◌<◌, ◌≤◌, ◌==◌, true, false, List, [], ◌∷◌, ◌++◌, length}
+use Rattle.std.proofs.Common.{◌≡◌, ◌≢◌, ℕ, zero, suc, ◌<◌, ◌≤◌, ◌==◌, List, [], ◌∷◌, ◌++◌, length}
 use Rattle.std.proofs.Common.{slice_index_or, slice_set, Contains, refl, ap, ◌∙◌, eqb-true, ne_eqb, ⊎_elim, arith}
 use Rattle.std.specs.Prelude.{slice_index, OnOk, OnErr, Result, Ok, Err}
 use Rattle.std.proofs.lemmas.List.Elements.{Contains-append_left, Contains-append_right, Contains-push, Contains-push_cases}
@@ -58,8 +58,8 @@ pub set_at : (P : ℕ → Type 0) (xs : List ℕ) (k v q : ℕ) → k < length x
 set_at P xs k v q lt same other = dite (ℕ_discrete q k)
     (λ e. rw (e, get_or-set_same xs k v 0 lt) (same e)) (λ ne. rw (get_or-set_other xs k q v 0 ne) (other ne))
 
-pub known_put : {p : PassState} {s s' : TermRegisters} (d v : ℕ) → Known p s → HasSeen p v → s' ≡ with_reg s d v → d < 32 → length s.regs ≡ 32 → Known p s'
-known_put {p} {s} d v h seen e lt n = rw e (record {
+pub known_put : {p : PassState} {s s' : TermRegisters} {d v : ℕ} → Known p s → HasSeen p v → s' ≡ with_reg s d v → d < 32 → length s.regs ≡ 32 → Known p s'
+known_put {p} {s} {d = d} {v = v} h seen e lt n = rw e (record {
   regs = λ r low. cond_both (d == 0) s.regs (slice_set s.regs d v) (λ l. HasSeen p (slice_index l r))
       (λ _. h.regs r low) (λ _. set_at (HasSeen p) s.regs d v r (omega (arith, lt, n)) (λ _. seen) (λ _. h.regs r low));
   hi = h.hi;

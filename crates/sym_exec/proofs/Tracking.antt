@@ -13,10 +13,10 @@ use Rattle.sym_exec.specs.declared.registers.TermRegisters.{TermRegisters}
 use Rattle.sym_exec.specs.declared.room.RunLists.{RunLists}
 use Rattle.sym_exec.specs.declared.state.Guard.{Guard}
 use Rattle.sym_exec.specs.declared.stores.StoreChain.{StoreChain}
-use Rattle.sym_exec.specs.Symbolic.{TreeState, GuardTree, start_trees}
+use Rattle.sym_exec.specs.Symbolic.{TreeState, GuardTree}
 use Rattle.sym_exec.specs.Standing.{Later, Hold, IsGuard}
 use Rattle.sym_exec.specs.Stores.{MakeMemory, HasRoom, HasStoreRoom, IsChain, IsEmpty, Tracks}
-use Rattle.sym_exec.proofs.Tickets.{hold_on, guards_on, guards_more, guards_none}
+use Rattle.sym_exec.proofs.Tickets.{hold_on, guards_on, guards_more}
 use Rattle.sym_exec.proofs.Chains.{chain-on, memory-on}
 
 module _ {p q : PassState} (e : Later p q) where
@@ -47,9 +47,9 @@ module _ {p q : PassState} (e : Later p q) where
   }
 
   -- and there is a guard more
-  pub tracks_guard : {r s : TermRegisters} {l m : RunLists} {t u : TreeState} (g : Guard) (x : GuardTree) → Tracks p r l t → Hold q s u
-      → MakeMemory q m.chain.stores.items u.memory → IsGuard q g x → m.guards.items ≡ l.guards.items ++ g ∷ [] → u.guards ≡ x ∷ t.guards → Tracks q s m u
-  tracks_guard g x h hold memory is pushed guards =
+  pub tracks_guard : {r s : TermRegisters} {l m : RunLists} {t u : TreeState} {x : GuardTree} (g : Guard) → Tracks p r l t → Hold q s u
+      → MakeMemory q m.chain.stores.items u.memory → m.guards.items ≡ l.guards.items ++ g ∷ [] → u.guards ≡ x ∷ t.guards → IsGuard q g x → Tracks q s m u
+  tracks_guard {x = x} g h hold memory pushed guards is =
       record { hold = hold; memory = memory; guards = rw guards (guards_more g x (guards_on e h.guards) is pushed) }
 
 -- which leaves room, where the stores have room and are at most one more
@@ -58,7 +58,7 @@ pub room_guard : (l m : RunLists) (d : StoreChain) → vec_capacity l.guards ≤
 room_guard l m d enough inner few one capacity chain =
     record { guards = rw (chain, capacity) enough; chain = rw chain inner; few = rw (chain, one) few }
 
--- at the start no store is made and no guard is there
+-- at the start no store is made
 pub chain_start : {p : PassState} {l : RunLists} {d : StoreChain} {k : ℕ} → IsEmpty l → HasTree p k (leaf Mem0) → d.stores ≡ l.chain.stores
     → d.memories.items ≡ l.chain.memories.items ++ k ∷ [] → IsChain p d
 chain_start none has stores memories = record {
@@ -69,11 +69,6 @@ chain_start none has stores memories = record {
   some = rw (memories, none.memories) (omega arith);
   fit = rw (memories, none.memories) (omega arith);
 }
-
-pub tracks_start : {p : PassState} {s : TermRegisters} {l m : RunLists} → IsEmpty l → Hold p s start_trees → m.chain.stores ≡ l.chain.stores
-    → m.guards ≡ l.guards → Tracks p s m start_trees
-tracks_start none hold stores guards =
-    record { hold = hold; memory = rw (stores, none.stores) refl; guards = rw (guards, none.guards) guards_none }
 
 -- the actions from a place on: the one there, and the others
 pub actions_here : (l : List Plain) (k : ℕ) {x : Plain} {a : Action} → k < length l → x ≡ get_or l k x → a ≡ action_of x

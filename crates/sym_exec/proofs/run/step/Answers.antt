@@ -1,8 +1,6 @@
 use Rattle.std.proofs.Common.{refl, ap, arith}
 use Rattle.std.specs.Prelude.{vec_len}
 use Rattle.sym_exec.proofs.Tickets.{still_tree, goes_none, goes_on, interns_by, get_tree, known_on, known_put, hold_on, hold_put, hold_same, on_ok_weaker, ok_always, err_always, on_err_weaker, lacks_here}
-use Rattle.sym_exec.specs.declared.state.Guard.TheVariants.{Address, Division}
-use Rattle.sym_exec.specs.Symbolic.{AtAddress, AtDivision, register_tree, address_tree}
 use Rattle.sym_exec.proofs.Chains.{chain-on, memory-on}
 use Rattle.sym_exec.proofs.Tracking.{tracks_on, tracks_guard, room_guard}
 use Rattle.sym_exec.proofs.run.step.Goals as goal
@@ -18,20 +16,15 @@ returns-in-Sets-clause-tracks c = λ t h.
 pub returns-in_ok-address-in-Loads-clause-tracks : goal.returns-in_ok-address-in-Loads-clause-tracks
 returns-in_ok-address-in-Loads-clause-tracks c = λ t h.
     let d = c.in_ok-address-in-Loads.ensures in
-    let guard = Address c.in-Loads.width c.in_ok-address-in-Loads.address in
-    let tree = AtAddress c.in-Loads.width (address_tree t c.in-Loads.base c.in-Loads.offset) in
     let memory = memory-on d.pass.later c.args.lists.now.chain.stores.items t.memory h.memory in
-    rw c.in-Loads.is (tracks_guard d.pass.later guard tree h (d.hold t h.hold h.memory)
-    (rw (c.push_guard.ensures.chain, d.stores) memory) (refl, d.address t h.hold) c.push_guard.ensures.pushed refl)
+    rw c.in-Loads.is (tracks_guard d.pass.later _ h (d.hold t h.hold h.memory) (rw (c.push_guard.ensures.chain, d.stores) memory)
+    c.push_guard.ensures.pushed refl (refl, d.address t h.hold))
 
 pub returns-in_ok-address-in-Stores-clause-tracks : goal.returns-in_ok-address-in-Stores-clause-tracks
 returns-in_ok-address-in-Stores-clause-tracks c = λ t h.
     let d = c.in_ok-address-in-Stores.ensures in
-    let guard = Address c.in-Stores.width c.in_ok-address-in-Stores.address in
-    let tree = AtAddress c.in-Stores.width (address_tree t c.in-Stores.base c.in-Stores.offset) in
-    rw c.in-Stores.is (tracks_guard d.pass.later guard tree h (hold_same (hold_on d.pass.later h.hold) refl refl refl)
-    (rw c.push_guard-in-Stores.ensures.chain (d.memory t h.hold h.memory))
-    (refl, d.address t h.hold) c.push_guard-in-Stores.ensures.pushed refl)
+    rw c.in-Stores.is (tracks_guard d.pass.later _ h (hold_same (hold_on d.pass.later h.hold) refl refl refl)
+    (rw c.push_guard-in-Stores.ensures.chain (d.memory t h.hold h.memory)) c.push_guard-in-Stores.ensures.pushed refl (refl, d.address t h.hold))
 
 pub returns-in-Multiplies-clause-tracks : goal.returns-in-Multiplies-clause-tracks
 returns-in-Multiplies-clause-tracks c = λ t h.
@@ -43,13 +36,10 @@ returns-in_ok-put_halves-in-Divides-clause-tracks c = λ t h.
     let later = c.in_ok-put_halves-in-Divides.ensures.pass.later in
     let x = still_tree later.extends (get_tree {t = t} h.hold c.get-dividend.ensures.value c.get-dividend.ensures.range) in
     let y = still_tree later.extends (get_tree {t = t} h.hold c.get-divisor.ensures.value c.get-divisor.ensures.range) in
-    let guard = Division c.in-Divides.sign c.get-dividend.result c.get-divisor.result in
-    let tree = AtDivision c.in-Divides.sign (register_tree t c.in-Divides.a) (register_tree t c.in-Divides.b) in
     let memory = memory-on later c.args.lists.now.chain.stores.items t.memory h.memory in
     let held = rw (c.remainder_operator.ensures, c.quotient_operator.ensures) at (c.in_ok-put_halves-in-Divides.ensures.hold t h.hold) in
-    rw c.in-Divides.is (tracks_guard later guard tree h (hold_same held refl refl refl)
-    (rw c.push_guard-in-Divides.ensures.chain memory) (refl, x, y)
-    c.push_guard-in-Divides.ensures.pushed refl)
+    rw c.in-Divides.is (tracks_guard later _ h (hold_same held refl refl refl) (rw c.push_guard-in-Divides.ensures.chain memory)
+    c.push_guard-in-Divides.ensures.pushed refl (refl, x, y))
 
 pub returns-in-MovesHigh-clause-tracks : goal.returns-in-MovesHigh-clause-tracks
 returns-in-MovesHigh-clause-tracks c = λ t h.
@@ -94,12 +84,10 @@ returns-in_ok-put_halves-in-Divides-clause-room c =
     c.push_guard-in-Divides.ensures.count c.push_guard-in-Divides.ensures.capacity c.push_guard-in-Divides.ensures.chain
 
 pub returns-in_ok-address-in-Loads-clause-chain : goal.returns-in_ok-address-in-Loads-clause-chain
-returns-in_ok-address-in-Loads-clause-chain c =
-    rw c.push_guard.ensures.chain c.in_ok-address-in-Loads.ensures.chain
+returns-in_ok-address-in-Loads-clause-chain c = rw c.push_guard.ensures.chain c.in_ok-address-in-Loads.ensures.chain
 
 pub returns-in_ok-address-in-Stores-clause-chain : goal.returns-in_ok-address-in-Stores-clause-chain
-returns-in_ok-address-in-Stores-clause-chain c =
-    rw c.push_guard-in-Stores.ensures.chain c.in_ok-address-in-Stores.ensures.chain
+returns-in_ok-address-in-Stores-clause-chain c = rw c.push_guard-in-Stores.ensures.chain c.in_ok-address-in-Stores.ensures.chain
 
 pub returns-in_ok-address-in-Loads-clause-pass : goal.returns-in_ok-address-in-Loads-clause-pass
 returns-in_ok-address-in-Loads-clause-pass c = interns_by (goes_on c.in_ok-address-in-Loads.ensures.pass) tt
@@ -118,14 +106,12 @@ returns-in-MovesLow-clause-pass c = interns_by (goes_none c.args.terms.now) tt
 
 pub returns-in-MovesHigh-clause-known : goal.returns-in-MovesHigh-clause-known
 returns-in-MovesHigh-clause-known c =
-    let known = c.requires.known in
-    known_put c.in-MovesHigh.d c.args.registers.now.hi known known.hi c.set.ensures.value c.set.ensures.range c.set.ensures.count
+    known_put c.requires.known c.requires.known.hi c.set.ensures.value c.set.ensures.range c.set.ensures.count
 
 pub returns-in-MovesLow-clause-known : goal.returns-in-MovesLow-clause-known
 returns-in-MovesLow-clause-known c =
-    let known = c.requires.known in
     let put = c.set-in-MovesLow.ensures in
-    known_put c.in-MovesLow.d c.args.registers.now.lo known known.lo put.value put.range put.count
+    known_put c.requires.known c.requires.known.lo put.value put.range put.count
 
 pub returns-in-Computes-clause-room : goal.returns-in-Computes-clause-room
 returns-in-Computes-clause-room c = ok_always c.computes.result c.requires.room
@@ -137,8 +123,7 @@ pub returns-in-Multiplies-clause-room : goal.returns-in-Multiplies-clause-room
 returns-in-Multiplies-clause-room c = ok_always c.put_halves.result c.requires.room
 
 pub returns-in_err-address-in-Loads-clause-absent : goal.returns-in_err-address-in-Loads-clause-absent
-returns-in_err-address-in-Loads-clause-absent c = λ t h.
-    rw c.in-Loads.is (err_always _ (c.in_err-address-in-Loads.ensures.absent t h.hold h.memory))
+returns-in_err-address-in-Loads-clause-absent c = λ t h. rw c.in-Loads.is (err_always _ (c.in_err-address-in-Loads.ensures.absent t h.hold h.memory))
 
 pub returns-in_err-address-in-Stores-clause-absent : goal.returns-in_err-address-in-Stores-clause-absent
 returns-in_err-address-in-Stores-clause-absent c = λ t h.
@@ -149,13 +134,10 @@ returns-in_err-put_halves-in-Divides-clause-absent c = λ t h.
     rw c.in-Divides.is (err_always _ (rw (c.remainder_operator.ensures, c.quotient_operator.ensures) at (c.in_err-put_halves-in-Divides.ensures.absent t h.hold)))
 
 pub returns-in-Computes-clause-absent : goal.returns-in-Computes-clause-absent
-returns-in-Computes-clause-absent c = λ t h.
-    rw c.in-Computes.is (c.computes.ensures.absent t h.hold)
+returns-in-Computes-clause-absent c = λ t h. rw c.in-Computes.is (c.computes.ensures.absent t h.hold)
 
 pub returns-in-Sets-clause-absent : goal.returns-in-Sets-clause-absent
-returns-in-Sets-clause-absent c = λ t h.
-    rw c.in-Sets.is (on_err_weaker c.put_leaf.result lacks_here c.put_leaf.ensures.absent)
+returns-in-Sets-clause-absent c = λ t h. rw c.in-Sets.is (on_err_weaker c.put_leaf.result lacks_here c.put_leaf.ensures.absent)
 
 pub returns-in-Multiplies-clause-absent : goal.returns-in-Multiplies-clause-absent
-returns-in-Multiplies-clause-absent c = λ t h.
-    rw c.in-Multiplies.is (rw (c.product_high.ensures, c.product_low.ensures) at (c.put_halves.ensures.absent t h.hold))
+returns-in-Multiplies-clause-absent c = λ t h. rw c.in-Multiplies.is (rw (c.product_high.ensures, c.product_low.ensures) at (c.put_halves.ensures.absent t h.hold))

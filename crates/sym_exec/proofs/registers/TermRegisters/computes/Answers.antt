@@ -14,8 +14,7 @@ returns-then-index-eq0-clause-pass c = interns_by (goes_none c.args.terms.now) t
 
 pub returns-clause-known : goal.returns-clause-known
 returns-clause-known c =
-    known_put c.args.d c.in_ok-value.value (known_on c.in_ok-value.ensures.pass.later c.requires) c.in_ok-value.ensures.seen
-    c.set.ensures.value c.set.ensures.range c.set.ensures.count
+    known_put (known_on c.in_ok-value.ensures.pass.later c.requires) c.in_ok-value.ensures.seen c.set.ensures.value c.set.ensures.range c.set.ensures.count
 
 pub returns-clause-hold : goal.returns-clause-hold
 returns-clause-hold c = λ t h.

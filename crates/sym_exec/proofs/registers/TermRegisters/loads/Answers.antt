@@ -9,7 +9,7 @@ load_term-requires-clause-chain c = chain-on c.in_ok-address.ensures.pass.later 
 
 pub returns-clause-known : goal.returns-clause-known
 returns-clause-known c =
-    known_put c.reg.result c.in_ok-value.value (known_on (later_more c.in_ok-address.ensures.pass.later c.in_ok-value.ensures.pass.later) c.requires.known)
+    known_put (known_on (later_more c.in_ok-address.ensures.pass.later c.in_ok-value.ensures.pass.later) c.requires.known)
     c.in_ok-value.ensures.seen c.set.ensures.value c.set.ensures.range c.set.ensures.count
 
 pub returns-clause-hold : goal.returns-clause-hold

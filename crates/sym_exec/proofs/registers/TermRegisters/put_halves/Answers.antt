@@ -1,34 +1,29 @@
 use Rattle.std.proofs.Common.{rules}
 use Rattle.sym_exec.proofs.Tickets.{still_seen, still_tree, later_more, goes_on, goes_more, interns_by, hold_on, known_on, get_seen, get_tree, err_always, lacks_here, lacks_next}
-use Rattle.sym_exec.specs.Standing.{Hold, Known, with_halves}
+use Rattle.sym_exec.specs.Standing.{with_halves}
 use Rattle.sym_exec.proofs.registers.TermRegisters.put_halves.Goals as goal
 
-pub op_term-requires-2-clause-a : goal.op_term-requires-2-clause-a
-op_term-requires-2-clause-a c =
-    still_seen c.in_ok-hi.ensures.pass.later.extends c.get-x.result (get_seen c.requires c.get-x.ensures.value c.get-x.ensures.range)
-
-pub op_term-requires-2-clause-b : goal.op_term-requires-2-clause-b
-op_term-requires-2-clause-b c =
-    still_seen c.in_ok-hi.ensures.pass.later.extends c.get-y.result (get_seen c.requires c.get-y.ensures.value c.get-y.ensures.range)
+pub op_term-requires-2 : goal.op_term-requires-2
+op_term-requires-2 c = let on = c.in_ok-hi.ensures.pass.later.extends in record {
+  a = still_seen on c.get-x.result (get_seen c.requires c.get-x.ensures.value c.get-x.ensures.range);
+  b = still_seen on c.get-y.result (get_seen c.requires c.get-y.ensures.value c.get-y.ensures.range);
+}
 
 pub returns-clause-known : goal.returns-clause-known
-returns-clause-known c = let all : Known c.op_term-2.new.terms.pass.now c.args.self.now =
-    known_on (later_more c.in_ok-hi.ensures.pass.later c.in_ok-lo.ensures.pass.later) c.requires in
-    record {
-      regs = all.regs;
-      hi = still_seen c.in_ok-lo.ensures.pass.later.extends c.in_ok-hi.hi c.in_ok-hi.ensures.seen;
-      lo =
-          c.in_ok-lo.ensures.seen;
-    }
+returns-clause-known c =
+    let all = known_on (later_more c.in_ok-hi.ensures.pass.later c.in_ok-lo.ensures.pass.later) c.requires in
+    record { regs = all.regs; hi = still_seen c.in_ok-lo.ensures.pass.later.extends c.in_ok-hi.hi c.in_ok-hi.ensures.seen; lo = c.in_ok-lo.ensures.seen }
 
 pub returns-clause-hold : goal.returns-clause-hold
 returns-clause-hold c = λ t h.
-    let all : Hold c.op_term-2.new.terms.pass.now c.args.self.now t = hold_on (later_more c.in_ok-hi.ensures.pass.later c.in_ok-lo.ensures.pass.later) h in
+    let all = hold_on (later_more c.in_ok-hi.ensures.pass.later c.in_ok-lo.ensures.pass.later) h in
     let x = get_tree {t = t} h c.get-x.ensures.value c.get-x.ensures.range in
     let y = get_tree {t = t} h c.get-y.ensures.value c.get-y.ensures.range in
-    let hi = still_tree c.in_ok-lo.ensures.pass.later.extends (c.in_ok-hi.ensures.tree _ _ x y) in
-    let lo = c.in_ok-lo.ensures.tree _ _ (still_tree c.in_ok-hi.ensures.pass.later.extends x) (still_tree c.in_ok-hi.ensures.pass.later.extends y) in
-    record { regs = all.regs; hi = hi; lo = lo }
+    let on = c.in_ok-hi.ensures.pass.later.extends in record {
+      regs = all.regs;
+      hi = still_tree c.in_ok-lo.ensures.pass.later.extends (c.in_ok-hi.ensures.tree _ _ x y);
+      lo = c.in_ok-lo.ensures.tree _ _ (still_tree on x) (still_tree on y);
+    }
 
 pub returns-clause-pass : goal.returns-clause-pass
 returns-clause-pass c = interns_by (goes_more (goes_on c.in_ok-hi.ensures.pass) (goes_on c.in_ok-lo.ensures.pass)) tt
