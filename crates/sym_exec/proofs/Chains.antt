@@ -1,22 +1,17 @@
 -- Chains of stores: they go on, and a store comes among them.
-use Rattle.std.proofs.Common.{◌≡◌, ℕ, zero, suc, ◌+◌, ◌<◌, ◌≤◌, ◌&&◌, ◌==◌, ◌++◌, Bool, cond, true, false, List, [], ◌∷◌, refl, sym}
-use Rattle.std.proofs.Common.{ap, ap₂, ◌∙◌, subst, eq-eqb, ne_eqb, length, take, drop, slice_index_or, arith}
-use Rattle.std.specs.Prelude.{int_lt, slice_index}
+use Rattle.std.proofs.Common.{◌≡◌, ◌≢◌, ℕ, suc, ◌+◌, ◌<◌, ◌≤◌, ◌==◌, ◌++◌, Bool, cond, true, false, List, [], ◌∷◌, refl, sym}
+use Rattle.std.proofs.Common.{ap, ◌∙◌, subst, eq-eqb, ne_eqb, length, take, drop, slice_index_or, ⊎_elim, arith, below_more}
+use Rattle.std.specs.Prelude.{slice_index}
 use Rattle.std.specs.List.{insert}
 use Rattle.std.proofs.Math.Seq.{take-suc, get_or-append_seam}
-use Rattle.std.proofs.Math.ListN.{get_or-append}
-use Rattle.std.proofs.lemmas.Bool.{false_from_ne_true}
+use Rattle.std.proofs.lemmas.Bool.{false_from_ne_true, cases_eq}
 use Rattle.std.proofs.lemmas.List.Edits.{length-insert}
-use Rattle.std.proofs.lemmas.List.{append_assoc, take-append-le, take-append-drop, take-take, length_push, length-take, length-take-le, get_or-take, get_or_default}
-use borrow.Author.Count.{below_more}
-use native.Mathlib.Decide.{ℕ_discrete}
-use mathlib.Core.Logic.{dite}
+use Rattle.std.proofs.lemmas.List.{append_assoc, get_or_append_left, take-append-le, take-append-drop, take-take, length_push, length-take, length-take-le, get_or-take, get_or_default}
 use Rattle.words.specs.declared.width.Width.{Width}
-use Rattle.words.specs.Words.{signed}
 use Rattle.sym_terms.specs.declared.label.Label.TheVariants.{Mem0, Load, Store}
 use Rattle.sym_terms.specs.Trees.{Tree, none, more, leaf, binary, ternary}
 use Rattle.sym_terms.specs.Sameness.{are_same}
-use Rattle.sym_terms.specs.NormalForms.{address_of, are_disjoint, is_passed, is_passed_inward, load_tree, store_tree}
+use Rattle.sym_terms.specs.NormalForms.{address_of, is_passed, is_passed_inward, load_tree, store_tree}
 use Rattle.sym_terms.proofs.Sameness.{same-is, same-self}
 use Rattle.term_table.specs.Passes.{PassState}
 use Rattle.term_table.specs.Trees.{HasLegalHistory}
@@ -27,7 +22,7 @@ use Rattle.sym_exec.specs.declared.address.TermAddress.{TermAddress}
 use Rattle.sym_exec.specs.declared.stores.Stored.{Stored}
 use Rattle.sym_exec.specs.declared.stores.StoreChain.{StoreChain}
 use Rattle.sym_exec.specs.Standing.{Later, IsAddress}
-use Rattle.sym_exec.specs.Stores.{address_of_store, passes, passes_inward, Makes, LeadsTo, MakeMemory, AreMemories, IsChain}
+use Rattle.sym_exec.specs.Stores.{address_of_store, passes, passes_inward, Makes, LeadsTo, MakeMemory, IsChain}
 
 -- a store makes one memory of one memory, and so do stores
 makes-one : {p : PassState} {s : Stored} {t u v : Tree} → Makes p s t u → Makes p s t v → u ≡ v
@@ -113,7 +108,7 @@ chain-push {p} {q} {c} k {n} u e h len inside made has stores memories =
       made = rw stores on.made;
       memories = rw (memories, length_push ms n, stores)
           (below_more (λ j. (t : Tree) → MakeMemory q (take j xs) t → HasTree q (slice_index (ms ++ n ∷ []) j) t) (length ms)
-          (λ j old t before. rw (get_or-append ms (n ∷ []) 0 j old) (on.memories j old t before))
+          (λ j old t before. rw (get_or_append_left ms (n ∷ []) 0 j old) (on.memories j old t before))
           (λ t before. rw (get_or-append_seam ms n [] 0, memory-one q (take (suc k) xs) (rw len at before) (memory-on e (take (suc k) xs) u made)) has));
       some = rw (memories, length_push ms n) (omega arith);
       fit = rw (memories, length_push ms n, stores, len) (omega (arith, inside));
@@ -159,9 +154,8 @@ lacks_behind p q u k n xs m low made lacks behind =
 
 -- bases are the same by tickets exactly when they are by trees
 same-bases : {p : PassState} {t u : ℕ} {x y : Tree} → HasLegalHistory p → HasTree p t x → HasTree p u y → are_same x y ≡ (t == u)
-same-bases {p} {t} {u} {x} {y} legal h k = dite (ℕ_discrete t u)
-    (λ e. rw (eq-eqb t u e, (same_trees legal h k).0 e) (same-self y))
-    (λ ne. rw (ne_eqb t u ne) (false_from_ne_true (are_same x y) (λ s. ne ((same_trees legal h k).1 (same-is x y s)))))
+same-bases {p} {t} {u} {x} {y} legal h k = ⊎_elim (λ (e : t ≡ u). rw (eq-eqb t u e, (same_trees legal h k).0 e) (same-self y))
+    (λ (ne : t ≢ u). rw (ne_eqb t u ne) (false_from_ne_true (are_same x y) (λ s. ne ((same_trees legal h k).1 (same-is x y s))))) (cases_eq t u)
 
 -- the tests by tickets are those by trees
 pub passes-is : {p : PassState} {s : Stored} {at : TermAddress} {t u : Tree} (w : Width) (b : Tree) → HasLegalHistory p → (m : Makes p s t u)

@@ -41,12 +41,10 @@ growth_bound acts exit slots =
     let n = length acts + length slots in
     let before = all_stores acts 0 in
     let few = all_stores_low acts 0 in
-    let end = all_stores_low slots before in
     let first = all_low acts 0 n (omega arith) in
     let last = all_low slots before n (omega (arith, few)) in
-    let exits = shape_low (exit_shape exit) in
     let whole : (a b : ℕ) → (a + b) + (a * (a + b + 3) + b * (a + b + 3)) ≡ (a + b) * (a + b + 4) = λ a b. grind arith in
-    omega (arith, few, end, first, last, exits, whole (length acts) (length slots))
+    omega (arith, few, all_stores_low slots before, first, last, shape_low (exit_shape exit), whole (length acts) (length slots))
 
 -- 35 at the start, and 3 for a constant, the sum's constant and the sum
 pub one_sum : code_growth (Computes 5 Addu 4 (Fixed 1) ∷ []) (Goto 1) [] ≡ 38

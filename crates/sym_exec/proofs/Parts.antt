@@ -1,7 +1,7 @@
 -- Where a part of a term has no ticket, the term has none.
 use Rattle.std.proofs.Common.{◌≡◌, ◌∙◌, ℕ, ◌==◌, Bool, true, false, cond, List, [], ◌∷◌, ◌++◌, Option, Some, None, refl, sym, ap, append-nil}
 use Rattle.std.proofs.lemmas.Option.{none-some, same_Some}
-use Rattle.term_labels.specs.WordTrees.{Tree, Trees, node, none, more}
+use Rattle.term_labels.specs.WordTrees.{Tree, Trees, node, more}
 use Rattle.term_core.specs.declared.Call.{Call}
 use Rattle.term_core.specs.declared.Call.TheVariants.{Intern}
 use Rattle.term_core.specs.declared.Answer.{Answer}

@@ -3,7 +3,6 @@ use Rattle.std.proofs.Common.{◌≡◌, ◌^◌, ℕ, zero, suc, ◌<◌, Bool,
 use mathlib.Core.Logic.{◌↔◌}
 use Rattle.words.specs.declared.operator.Operator.{Operator}
 use Rattle.words.specs.declared.operator.Operator.TheVariants.{Addu}
-use Rattle.words.specs.Words.{wrap}
 use Rattle.words.specs.Operators.{op_value, has_quotient}
 use Rattle.mips_isa.specs.declared.action.Operand.{Operand}
 use Rattle.mips_isa.specs.declared.action.Operand.TheVariants.{Held, Fixed}

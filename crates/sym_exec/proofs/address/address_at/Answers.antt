@@ -1,6 +1,5 @@
 use Rattle.std.proofs.Common.{◌≡◌, ◌∙◌, sym, subst}
-use Rattle.sym_exec.proofs.Tickets.{still_seen, still_tree, later_more, goes_more}
-use Rattle.sym_exec.proofs.Reading.{address-base, address-sum, address-none}
+use Rattle.sym_exec.proofs.Tickets.{still_seen, still_tree, later_more, goes_more, address-base, address-sum, address-none}
 use Rattle.sym_exec.specs.Standing.{IsAddress}
 use Rattle.sym_exec.proofs.address.address_at.Goals as goal
 

@@ -1,5 +1,5 @@
 use Rattle.std.proofs.Common.{sym, ◌∙◌, rules}
-use Rattle.sym_exec.proofs.Reading.{constant-node}
+use Rattle.sym_exec.proofs.Tickets.{constant-node}
 use Rattle.sym_exec.proofs.address.constant_at.Goals as goal
 
 pub returns-then-len-gt0-clause-value : goal.returns-then-len-gt0-clause-value

@@ -1,6 +1,5 @@
 use Rattle.std.proofs.Common.{ne_eqb, arith}
-use Rattle.sym_exec.proofs.Tickets.{still_seen, still_tree, goes_on, goes_more, interns_by}
-use Rattle.sym_exec.proofs.Reading.{address-later, sum-reached}
+use Rattle.sym_exec.proofs.Tickets.{still_seen, still_tree, goes_on, goes_more, interns_by, address-later, sum-reached}
 use Rattle.sym_exec.proofs.address.reach.Goals as goal
 
 pub returns-then-offset-eq0-clause-at : goal.returns-then-offset-eq0-clause-at

@@ -1,6 +1,6 @@
 use Rattle.std.proofs.Common.{◌≡◌, ◌≢◌, ◌∙◌, length, sym, false, rules}
 use Rattle.sym_terms.specs.NormalForms.{is_sum}
-use Rattle.sym_exec.proofs.Reading.{address-other, summands-of, two-of}
+use Rattle.sym_exec.proofs.Tickets.{address-other, summands-of, two-of}
 use Rattle.sym_exec.proofs.address.summands.Goals.{in_default-via-then-as_slice-lt2, in_default-via-else-as_slice-lt2+else-this-lt3}
 use Rattle.sym_exec.proofs.address.summands.Goals as goal
 

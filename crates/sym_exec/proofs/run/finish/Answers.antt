@@ -5,8 +5,7 @@ use Rattle.mblock.specs.BlockMeaning.{exit_shape}
 use Rattle.sym_exec.specs.Asked.{asked_by_all, asked_by_shape}
 use Rattle.sym_exec.proofs.Chains.{chain-on}
 use Rattle.sym_exec.proofs.Tickets.{later_more, goes_on, goes_more, interns_by, hold_on, guards_on, leaves_on, err_always, lacks_here, lacks_left, lacks_right}
-use Rattle.sym_exec.proofs.Shared.{needed_few}
-use Rattle.sym_exec.proofs.Tracking.{tracks_on}
+use Rattle.sym_exec.proofs.Tracking.{needed_few, tracks_on}
 use Rattle.sym_exec.proofs.run.finish.Goals as goal
 
 pub returns-clause-trees : goal.returns-clause-trees

@@ -5,9 +5,8 @@ use Rattle.sym_exec.specs.Asked.{block_asked, order_asked}
 use Rattle.sym_exec.specs.Growth.{all_stores}
 use Rattle.sym_exec.specs.Symbolic.{start_trees}
 use Rattle.sym_exec.specs.Runs.{needed}
-use Rattle.sym_exec.proofs.Shared.{same_trees, same_stores, needed_few, stands_in_parts, lacks_early, lacks_late, growth_in_parts}
+use Rattle.sym_exec.proofs.Tracking.{same_trees, same_stores, needed_few, stands_in_parts, lacks_early, lacks_late, growth_in_parts, tracks_copied, chain_copied}
 use Rattle.sym_exec.proofs.Tickets.{goes_on, goes_more, interns_by, known_on, stands_for_on, err_always, lacks_left, lacks_right}
-use Rattle.sym_exec.proofs.Tracking.{tracks_copied, chain_copied}
 use Rattle.sym_exec.proofs.run.run_pair_from.Goals as goal
 
 pub copy_from-requires-clause-guards : goal.copy_from-requires-clause-guards

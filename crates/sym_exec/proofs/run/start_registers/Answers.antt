@@ -1,4 +1,4 @@
-use Rattle.std.proofs.Common.{rules, refl, ◌≡◌, ℕ, zero, ◌<◌, ◌+◌, length, ◌∙◌, arith}
+use Rattle.std.proofs.Common.{rules, refl, ◌≡◌, ◌<◌, length, ◌∙◌, arith}
 use Rattle.std.proofs.Math.ListN.{length-set}
 use Rattle.sym_exec.proofs.Tickets.{still_tree, tree_seen, later_more, goes_on, goes_more, interns_by, set_at, start_of, err_always, lacks_here, lacks_next, lacks_start}
 use Rattle.sym_exec.specs.MipsTerms.{HasTree}
@@ -11,8 +11,7 @@ loop-r-init c = record {
   goes = goes_on c.in_ok-zero.ensures.pass;
   grows = omega (arith, c.in_ok-zero.ensures.grows);
   count = refl;
-  stands = λ q lt.
-      let e : q ≡ 0 = omega arith in rw e c.in_ok-zero.ensures.tree;
+  stands = λ q lt. let e : q ≡ 0 = omega arith in rw e c.in_ok-zero.ensures.tree;
 }
 
 pub loop-r-preserved : goal.loop-r-preserved
@@ -32,15 +31,11 @@ loop-r-preserved c =
     }
 
 pub returns-clause-hold : goal.returns-clause-hold
-returns-clause-hold c =
-    let e2 = c.in_ok-hi.ensures.pass.later in
-    let e3 = c.in_ok-lo.ensures.pass.later in
-    let all = later_more e2 e3 in
-    record {
-      regs = λ r lt. still_tree all.extends (c.loop-r.invariant.stands r (omega (arith, lt, c.loop-r-test.false)));
-      hi = still_tree e3.extends c.in_ok-hi.ensures.tree;
-      lo = c.in_ok-lo.ensures.tree;
-    }
+returns-clause-hold c = let last = c.in_ok-lo.ensures.pass.later in record {
+  regs = λ r lt. still_tree (later_more c.in_ok-hi.ensures.pass.later last).extends (c.loop-r.invariant.stands r (omega (arith, lt, c.loop-r-test.false)));
+  hi = still_tree last.extends c.in_ok-hi.ensures.tree;
+  lo = c.in_ok-lo.ensures.tree;
+}
 
 pub returns-clause-known : goal.returns-clause-known
 returns-clause-known c =

@@ -1,10 +1,8 @@
 use Rattle.std.proofs.Common.{◌∙◌, ◌+◌, map, drop, take, true, false, rules, arith, sym, ap, length-take}
 use Rattle.mips_isa.specs.Actions.{nop, action_of}
 use Rattle.sym_exec.specs.Growth.{growth_by_all, all_stores}
-use Rattle.sym_exec.proofs.Shared.{nop_is, needed_more, needed_few}
-use Rattle.sym_exec.specs.Symbolic.{trees_after}
+use Rattle.sym_exec.proofs.Tracking.{nop_is, needed_more, needed_few, actions_here}
 use Rattle.sym_exec.proofs.Tickets.{goes_on, goes_more, interns_by, err_always, lacks_left, lacks_right}
-use Rattle.sym_exec.proofs.Tracking.{actions_here}
 use Rattle.sym_exec.specs.Asked.{asked_by}
 use Rattle.sym_exec.proofs.run.steps.Goals as goal
 
@@ -43,17 +41,16 @@ loop-inst-preserved c =
       stores = ap (all_stores after) is ∙ rw here at was.stores;
       chain = c.in_ok-step.ensures.chain;
       room = c.in_ok-step.ensures.room;
-      guards =
-          let one = needed_more c.args.insts.now c.loop-inst.inst-index false c.loop-inst-test.true c.inst-item.is
-          (sym c.is_nop.ensures ∙ c.if-is_nop.false) in
-          omega (arith, was.guards, c.in_ok-step.ensures.guards, one);
-      capacity = c.in_ok-step.ensures.capacity ∙ was.capacity;
-      tracks = λ t h. let far = rw here at (was.tracks t h) in (
-        trees_after c.action.result far.0,
-        c.in_ok-step.ensures.tracks far.0 far.1,
-        far.2,
-        λ p lacks. far.3 p (lacks_right (asked_by c.action.result far.0) lacks),
+      guards = omega (
+        arith,
+        was.guards,
+        c.in_ok-step.ensures.guards,
+        needed_more c.args.insts.now c.loop-inst.inst-index false c.loop-inst-test.true
+            c.inst-item.is (sym c.is_nop.ensures ∙ c.if-is_nop.false),
       );
+      capacity = c.in_ok-step.ensures.capacity ∙ was.capacity;
+      tracks = λ t h. let far = rw here at (was.tracks t h) in
+          (_, c.in_ok-step.ensures.tracks far.0 far.1, far.2, λ p lacks. far.3 p (lacks_right (asked_by c.action.result far.0) lacks));
     }
 
 pub returns-in_err-step-clause-pass : goal.returns-in_err-step-clause-pass

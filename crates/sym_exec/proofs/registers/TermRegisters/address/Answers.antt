@@ -1,7 +1,6 @@
 use Rattle.sym_terms.specs.NormalForms.{address_of}
 use Rattle.sym_exec.specs.Symbolic.{register_tree}
-use Rattle.sym_exec.proofs.Tickets.{get_seen, get_tree, goes_on, goes_more, interns_by}
-use Rattle.sym_exec.proofs.Reading.{address-is}
+use Rattle.sym_exec.proofs.Tickets.{get_seen, get_tree, goes_on, goes_more, interns_by, address-is}
 use Rattle.sym_exec.proofs.registers.TermRegisters.address.Goals as goal
 
 pub address_at-from-requires : goal.address_at-from-requires

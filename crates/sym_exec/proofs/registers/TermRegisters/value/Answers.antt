@@ -1,4 +1,3 @@
-use Rattle.sym_exec.specs.Symbolic.{register_tree}
 use Rattle.sym_exec.proofs.Tickets.{on_err_weaker, lacks_here, lacks_next, get_tree}
 use Rattle.sym_exec.proofs.registers.TermRegisters.value.Goals as goal
 
