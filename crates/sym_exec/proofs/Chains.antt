@@ -22,7 +22,7 @@ use Rattle.sym_exec.specs.declared.address.TermAddress.{TermAddress}
 use Rattle.sym_exec.specs.declared.stores.Stored.{Stored}
 use Rattle.sym_exec.specs.declared.stores.StoreChain.{StoreChain}
 use Rattle.sym_exec.specs.Standing.{Later, IsAddress}
-use Rattle.sym_exec.specs.Stores.{address_of_store, passes, passes_inward, Makes, LeadsTo, MakeMemory, IsChain}
+use Rattle.sym_exec.specs.Stores.{passes, passes_inward, Makes, LeadsTo, MakeMemory, IsChain}
 
 -- a store makes one memory of one memory, and so do stores
 makes-one : {p : PassState} {s : Stored} {t u v : Tree} → Makes p s t u → Makes p s t v → u ≡ v
@@ -36,7 +36,7 @@ pub memory-one : (p : PassState) (xs : List Stored) {u v : Tree} → MakeMemory 
 memory-one p xs {u} {v} h k = leads-one p (leaf Mem0) xs u v h k
 
 -- stores behind stores
-leads-join : (p : PassState) (t : Tree) (xs ys : List Stored) (u v : Tree) → LeadsTo p t xs u → LeadsTo p u ys v → LeadsTo p t (xs ++ ys) v
+pub leads-join : (p : PassState) (t : Tree) (xs ys : List Stored) (u v : Tree) → LeadsTo p t xs u → LeadsTo p u ys v → LeadsTo p t (xs ++ ys) v
 leads-join p t [] ys u v h k = subst (λ x. LeadsTo p x ys v) (sym h) k
 leads-join p t (s ∷ rest) ys u v h k = (h.0, h.1, leads-join p h.0 rest ys u v h.2 k)
 
@@ -114,13 +114,7 @@ chain-push {p} {q} {c} k {n} u e h len inside made has stores memories =
       fit = rw (memories, length_push ms n, stores, len) (omega (arith, inside));
     }
 
--- a store that comes behind the first i
-pub memory-insert : {p : PassState} {b v : Tree} (s : Stored) (n u : Tree) (i : ℕ) (xs : List Stored) → MakeMemory p (take i xs) n → HasTree p s.address b
-    → HasTree p s.value v → IsAddress p (address_of_store s) (address_of b) → LeadsTo p (ternary (Store s.width) n b v) (drop i xs) u → MakeMemory p (insert xs i s) u
-memory-insert {p} {b} {v} s n u i xs made hb hv at leads =
-    leads-join p (leaf Mem0) (take i xs) (s ∷ drop i xs) n u made
-    (ternary (Store s.width) n b v, record { address = b; value = v; has_address = hb; has_value = hv; at = at; tree = refl }, leads)
-
+-- a store comes behind the first i
 pub chain-insert : {p : PassState} {c d : StoreChain} (i : ℕ) (s : Stored) (u : Tree) → IsChain p c → i ≤ length c.stores.items
     → d.stores.items ≡ insert c.stores.items i s → d.memories.items ≡ take (i + 1) c.memories.items → MakeMemory p d.stores.items u → IsChain p d
 chain-insert {p} {c} i s u h inside stores memories made =
@@ -175,10 +169,6 @@ load-at {p} n c xs s w b legal made h e = let l = memory-pop xs s made in (l.0, 
   where
     at : {t : Tree} → Makes p s t n → load_tree w n b ≡ cond c (load_tree w t b) (binary (Load w) n b)
     at m = rw (m.tree, passes-is w b legal m h, e) refl
-
-pub load-last : (p : PassState) (n : Tree) (w : Width) (b : Tree) → MakeMemory p [] n → load_tree w n b ≡ binary (Load w) n b
-unfolding load_tree
-load-last p n w b made = rw (← made) refl
 
 -- a store stays outside the last one, or goes inside it
 pub store-stays : {p : PassState} {n : Tree} {at : TermAddress} (xs : List Stored) (s : Stored) (w : Width) (b y : Tree) → HasLegalHistory p

@@ -7,15 +7,22 @@ use Rattle.std.proofs.lemmas.Bool.{eqb-false, cond_both, cases_eq}
 use Rattle.std.proofs.lemmas.Bool.Decides.{nat_tests}
 pub use Rattle.std.proofs.lemmas.Result.{on_ok_weaker, on_err_weaker}
 use Rattle.std.proofs.lemmas.List.{get_or-set_same, get_or-set_other}
-use Rattle.sym_terms.specs.NormalForms.{const_tree, label_constant, constant_of, is_sum, at_base, sum_address, address_of, tree_plus, op_tree}
+use Rattle.words.specs.declared.operator.Operator.TheVariants.{Addu}
+use Rattle.words.specs.Words.{wrap}
 use Rattle.mips_isa.specs.States.{is_register, read, put}
 use Rattle.mips_isa.proofs.Registers.{put_lost, read-put}
 use Rattle.mblock.specs.BlockMeaning.{Shape}
+use Rattle.term_labels.specs.Trees.{tree_count}
+use Rattle.sym_terms.specs.NormalForms.{const_tree, label_constant, constant_of, is_sum, at_base, sum_address, address_of, tree_plus, op_tree}
 use Rattle.sym_terms.specs.declared.label.Origin.TheVariants.{Register}
 use Rattle.sym_terms.specs.declared.label.Label.TheVariants.{Init, Op}
 use Rattle.sym_terms.specs.Trees.{Tree, leaf, Trees, node, none, more, binary}
+use Rattle.sym_terms.specs.declared.label.Label.{Label}
+use Rattle.sym_terms.specs.Labels.{label_coding}
+use Rattle.sym_terms.proofs.Sameness.{operator-is}
 use Rattle.term_table.specs.Passes.{PassState, linked}
 use Rattle.term_table.proofs.Callers.{extends_more, extends_self}
+use Rattle.term_table.proofs.TermCallers.{count_of}
 use Rattle.sym_exec.specs.MipsTerms.{HasSeen, HasTree, Lacks, HaveTrees, IsNode}
 pub use Rattle.sym_exec.proofs.MipsTerms.{still_seen, still_tree, tree_seen, one_tree}
 use Rattle.sym_exec.specs.declared.registers.TermRegisters.{TermRegisters}
@@ -28,13 +35,6 @@ use Rattle.sym_exec.specs.declared.interner.Interner.{Interner}
 use Rattle.sym_exec.specs.Interners.{GoesOn, Interns}
 use Rattle.sym_exec.specs.Asked.{LacksOne, first_registers, asked_first}
 use Rattle.sym_exec.specs.Standing.{Later, Known, Hold, with_reg, IsGuard, GuardsStand, AllHave, LeavesBy, StandsFor, tickets_of, IsAddress, AreSummands}
-use Rattle.words.specs.declared.operator.Operator.TheVariants.{Addu}
-use Rattle.words.specs.Words.{wrap}
-use Rattle.sym_terms.specs.declared.label.Label.{Label}
-use Rattle.term_labels.specs.Trees.{tree_count}
-use Rattle.sym_terms.specs.Labels.{label_coding}
-use Rattle.sym_terms.proofs.Sameness.{operator-is}
-use Rattle.term_table.proofs.TermCallers.{count_of}
 use Rattle.sym_exec.specs.declared.address.TermAddress.{TermAddress}
 
 pub later_more : {p q r : PassState} → Later p q → Later q r → Later p r

@@ -4,9 +4,16 @@ use Rattle.std.proofs.Common.{◌≡◌, ℕ, ◌<◌, ◌≤◌, ◌+◌, List,
 use Rattle.std.proofs.Common.{cond, not, take, true≢false, eqb-true}
 use Rattle.std.specs.Prelude.{vec_len, vec_capacity}
 use Rattle.std.proofs.lemmas.List.{drop_more, append-nil, append_assoc, length-append, map-append}
+use Rattle.std.proofs.lemmas.Bool.{and_parts, cond_both, not-false}
+use Rattle.std.proofs.lemmas.List.Sums.{length-filter, count_by-le-length}
+use Rattle.std.proofs.lemmas.List.Elements.{filter_more}
 use Rattle.mips_isa.specs.declared.inst.Plain.{Plain}
 use Rattle.mips_isa.specs.declared.action.Action.{Action}
 use Rattle.mips_isa.specs.Actions.{action_of, nop}
+use Rattle.mips_isa.specs.declared.inst.Plain.TheVariants.{Shift}
+use Rattle.mips_isa.specs.declared.inst.ShiftOp.TheVariants.{Sll}
+use Rattle.mips_isa.specs.Texts.{is_nop}
+use Rattle.mblock.specs.declared.exit.Exit.{Exit}
 use Rattle.sym_terms.specs.declared.label.Label.TheVariants.{Mem0}
 use Rattle.sym_terms.specs.Trees.{leaf}
 use Rattle.term_table.specs.Passes.{PassState}
@@ -20,13 +27,6 @@ use Rattle.sym_exec.specs.Standing.{Later, Hold, IsGuard, StandsFor}
 use Rattle.sym_exec.specs.Stores.{MakeMemory, HasRoom, HasStoreRoom, IsChain, IsEmpty, Tracks}
 use Rattle.sym_exec.proofs.Tickets.{hold_on, guards_on, guards_more, lacks_left, lacks_right}
 use Rattle.sym_exec.proofs.Chains.{chain-on, memory-on}
-use Rattle.std.proofs.lemmas.Bool.{and_parts, cond_both, not-false}
-use Rattle.std.proofs.lemmas.List.Sums.{length-filter, count_by-le-length}
-use Rattle.std.proofs.lemmas.List.Elements.{filter_more}
-use Rattle.mips_isa.specs.declared.inst.Plain.TheVariants.{Shift}
-use Rattle.mips_isa.specs.declared.inst.ShiftOp.TheVariants.{Sll}
-use Rattle.mips_isa.specs.Texts.{is_nop}
-use Rattle.mblock.specs.declared.exit.Exit.{Exit}
 use Rattle.sym_exec.specs.declared.state.TermExit.{TermExit}
 use Rattle.sym_exec.specs.declared.state.TermPlaces.{TermPlaces}
 use Rattle.sym_exec.specs.Asked.{asked_by, asked_by_all, asked_first, asked_from, code_asked, LacksOne}

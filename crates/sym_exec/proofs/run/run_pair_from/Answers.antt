@@ -28,15 +28,8 @@ finish-requires-clause-few c =
     let ran = c.in_ok-steps.ensures in
     omega (arith, ran.guards, ran.capacity, none, room, few, cut.front_len, cut.back_len, whole, c.requires.block_room.few)
 
-pub finish-requires-2-clause-known : goal.finish-requires-2-clause-known
-finish-requires-2-clause-known c = known_on c.in_ok-first.ensures.pass.later c.in_ok-steps.ensures.known
-
-pub finish-requires-2-clause-chain : goal.finish-requires-2-clause-chain
-finish-requires-2-clause-chain c =
-    chain_copied c.in_ok-first.ensures.pass.later c.in_ok-steps.ensures.chain c.copy_from.ensures.stores c.copy_from.ensures.memories
-
-pub finish-requires-2-clause-few : goal.finish-requires-2-clause-few
-finish-requires-2-clause-few c =
+pub finish-requires-2 : goal.finish-requires-2
+finish-requires-2 c =
     let none = ap vec_len c.begin-registers.ensures.guards in
     let empty = ap length c.requires.block_room.empty.guards in
     let alike = ap needed c.split_at.ensures.front ∙ (c.shared_counts-shared.ensures.same ∙ sym (ap needed c.split_at-2.ensures.front)) in
@@ -44,7 +37,12 @@ finish-requires-2-clause-few c =
     let whole = ap length c.insts-theirs.ensures.value in
     let cut = c.split_at-2.ensures in
     let copy = c.copy_from.ensures in
-    omega (arith, copy.count, copy.capacity, c.in_ok-steps.ensures.guards, none, empty, few, cut.front_len, cut.back_len, whole, c.requires.order_room.few)
+    record {
+      known = known_on c.in_ok-first.ensures.pass.later c.in_ok-steps.ensures.known;
+      chain = chain_copied c.in_ok-first.ensures.pass.later c.in_ok-steps.ensures.chain copy.stores copy.memories;
+      room = copy.room;
+      few = omega (arith, copy.count, copy.capacity, c.in_ok-steps.ensures.guards, none, empty, few, cut.front_len, cut.back_len, whole, c.requires.order_room.few);
+    }
 
 pub returns-in_err-steps : goal.returns-in_err-steps
 returns-in_err-steps c =

@@ -41,13 +41,8 @@ loop-inst-preserved c =
       stores = ap (all_stores after) is ∙ rw here at was.stores;
       chain = c.in_ok-step.ensures.chain;
       room = c.in_ok-step.ensures.room;
-      guards = omega (
-        arith,
-        was.guards,
-        c.in_ok-step.ensures.guards,
-        needed_more c.args.insts.now c.loop-inst.inst-index false c.loop-inst-test.true
-            c.inst-item.is (sym c.is_nop.ensures ∙ c.if-is_nop.false),
-      );
+      guards = let one = needed_more c.args.insts.now c.loop-inst.inst-index false c.loop-inst-test.true c.inst-item.is (sym c.is_nop.ensures ∙ c.if-is_nop.false) in
+          omega (arith, was.guards, c.in_ok-step.ensures.guards, one);
       capacity = c.in_ok-step.ensures.capacity ∙ was.capacity;
       tracks = λ t h. let far = rw here at (was.tracks t h) in
           (_, c.in_ok-step.ensures.tracks far.0 far.1, far.2, λ p lacks. far.3 p (lacks_right (asked_by c.action.result far.0) lacks));

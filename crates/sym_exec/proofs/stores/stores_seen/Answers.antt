@@ -1,7 +1,8 @@
 use Rattle.std.proofs.Common.{◌≡◌, ◌∙◌, [], take, length, true, false, refl, sym, rules}
 use Rattle.std.proofs.Math.Seq.{take-append_seam}
 use Rattle.std.proofs.lemmas.List.{append-nil, nil_from_length}
-use Rattle.sym_exec.proofs.Chains.{load-at, load-last, walk-on}
+use Rattle.sym_terms.specs.NormalForms.{load_tree}
+use Rattle.sym_exec.proofs.Chains.{load-at, walk-on}
 use Rattle.sym_exec.proofs.stores.stores_seen.Goals as goal
 
 pub loop-last-init : goal.loop-last-init
@@ -25,8 +26,9 @@ loop-last-preserved c =
     (next.0, next.1, now.2 ∙ next.2))
 
 pub returns-clause-tree : goal.returns-clause-tree
+unfolding load_tree
 returns-clause-tree c = λ p m b legal made at.
     let now = c.loop-last.invariant.trees p m b legal made at in
     let none = nil_from_length c.loop-last.inner.now c.in_default.ensures.cases in
     let whole = rw none at now.1 in
-    (now.0, whole, now.2 ∙ load-last p now.0 c.args.width b whole)
+    (now.0, whole, now.2 ∙ rw (← whole) refl)
