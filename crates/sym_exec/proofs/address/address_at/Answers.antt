@@ -2,9 +2,6 @@ use Rattle.std.proofs.Common.{◌∙◌, refl, sym, rules}
 use Rattle.sym_exec.proofs.Tickets.{still_seen, still_tree, goes_more, address-base, address-sum, address-none}
 use Rattle.sym_exec.proofs.address.address_at.Goals as goal
 
-pub constant_at-requires : goal.constant_at-requires
-constant_at-requires c = c.in-Some.ensures.seen.1
-
 pub returns-in_default-clause-seen : goal.returns-in_default-clause-seen
 returns-in_default-clause-seen c = still_seen c.summands.ensures.pass.later.extends c.args.ticket c.requires
 

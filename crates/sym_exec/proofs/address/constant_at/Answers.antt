@@ -4,6 +4,3 @@ use Rattle.sym_exec.proofs.address.constant_at.Goals as goal
 
 pub returns-then-len-gt0-clause-value : goal.returns-then-len-gt0-clause-value
 returns-then-len-gt0-clause-value c = λ x h. sym ((constant-node _ (c.read-node.ensures.tree x h)).1 (search rules))
-
-pub returns-clause-value : goal.returns-clause-value
-returns-clause-value c = λ x h. c.label_constant.ensures ∙ sym ((constant-node _ (c.read-node.ensures.tree x h)).0 (search rules))

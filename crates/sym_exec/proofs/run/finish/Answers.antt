@@ -24,9 +24,6 @@ returns-clause-trees c = λ s h.
 pub run_slot-requires-clause-chain : goal.run_slot-requires-clause-chain
 run_slot-requires-clause-chain c = chain-on c.in_ok-put_own.ensures.pass.later c.in_ok-steps.ensures.chain
 
-pub returns-in_err-steps-clause-pass : goal.returns-in_err-steps-clause-pass
-returns-in_err-steps-clause-pass c = interns_by (goes_on c.in_err-steps.ensures.pass) (search rules)
-
 pub returns-in_err-put_own-clause-pass : goal.returns-in_err-put_own-clause-pass
 returns-in_err-put_own-clause-pass c =
     interns_by (goes_more (goes_on c.in_ok-steps.ensures.pass) (goes_on c.in_err-put_own.ensures.pass)) (search rules)

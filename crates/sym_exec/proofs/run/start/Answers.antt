@@ -10,9 +10,6 @@ returns-clause-start c = record {
   memory = c.in_ok-memory.ensures.tree;
 }
 
-pub returns-clause-pass : goal.returns-clause-pass
-returns-clause-pass c = interns_by (goes_more (goes_on c.in_ok-regs.ensures.pass) (goes_on c.in_ok-memory.ensures.pass)) tt
-
 pub returns-in_err-memory-clause-pass : goal.returns-in_err-memory-clause-pass
 returns-in_err-memory-clause-pass c = interns_by (goes_more (goes_on c.in_ok-regs.ensures.pass) (goes_on c.in_err-memory.ensures.pass)) (search rules)
 

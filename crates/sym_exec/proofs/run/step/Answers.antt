@@ -83,27 +83,6 @@ returns-in_ok-put_halves-in-Divides-clause-room c =
     room_guard c.args.lists.now c.push_guard-in-Divides.new.self c.args.lists.now.chain c.requires.room.guards c.requires.room.chain (omega (arith, c.requires.room.few))
     c.push_guard-in-Divides.ensures.count c.push_guard-in-Divides.ensures.capacity c.push_guard-in-Divides.ensures.chain
 
-pub returns-in_ok-address-in-Loads-clause-chain : goal.returns-in_ok-address-in-Loads-clause-chain
-returns-in_ok-address-in-Loads-clause-chain c = rw c.push_guard.ensures.chain c.in_ok-address-in-Loads.ensures.chain
-
-pub returns-in_ok-address-in-Stores-clause-chain : goal.returns-in_ok-address-in-Stores-clause-chain
-returns-in_ok-address-in-Stores-clause-chain c = rw c.push_guard-in-Stores.ensures.chain c.in_ok-address-in-Stores.ensures.chain
-
-pub returns-in_ok-address-in-Loads-clause-pass : goal.returns-in_ok-address-in-Loads-clause-pass
-returns-in_ok-address-in-Loads-clause-pass c = interns_by (goes_on c.in_ok-address-in-Loads.ensures.pass) tt
-
-pub returns-in_ok-address-in-Stores-clause-pass : goal.returns-in_ok-address-in-Stores-clause-pass
-returns-in_ok-address-in-Stores-clause-pass c = interns_by (goes_on c.in_ok-address-in-Stores.ensures.pass) tt
-
-pub returns-in_ok-put_halves-in-Divides-clause-pass : goal.returns-in_ok-put_halves-in-Divides-clause-pass
-returns-in_ok-put_halves-in-Divides-clause-pass c = interns_by (goes_on c.in_ok-put_halves-in-Divides.ensures.pass) tt
-
-pub returns-in-MovesHigh-clause-pass : goal.returns-in-MovesHigh-clause-pass
-returns-in-MovesHigh-clause-pass c = interns_by (goes_none c.args.terms.now) tt
-
-pub returns-in-MovesLow-clause-pass : goal.returns-in-MovesLow-clause-pass
-returns-in-MovesLow-clause-pass c = interns_by (goes_none c.args.terms.now) tt
-
 pub returns-in-MovesHigh-clause-known : goal.returns-in-MovesHigh-clause-known
 returns-in-MovesHigh-clause-known c =
     known_put c.requires.known c.requires.known.hi c.set.ensures.value c.set.ensures.range c.set.ensures.count
@@ -113,18 +92,6 @@ returns-in-MovesLow-clause-known c =
     let put = c.set-in-MovesLow.ensures in
     known_put c.requires.known c.requires.known.lo put.value put.range put.count
 
-pub returns-in-Computes-clause-room : goal.returns-in-Computes-clause-room
-returns-in-Computes-clause-room c = ok_always c.computes.result c.requires.room
-
-pub returns-in-Sets-clause-room : goal.returns-in-Sets-clause-room
-returns-in-Sets-clause-room c = ok_always c.put_leaf.result c.requires.room
-
-pub returns-in-Multiplies-clause-room : goal.returns-in-Multiplies-clause-room
-returns-in-Multiplies-clause-room c = ok_always c.put_halves.result c.requires.room
-
-pub returns-in_err-address-in-Loads-clause-absent : goal.returns-in_err-address-in-Loads-clause-absent
-returns-in_err-address-in-Loads-clause-absent c = λ t h. rw c.in-Loads.is (err_always _ (c.in_err-address-in-Loads.ensures.absent t h.hold h.memory))
-
 pub returns-in_err-address-in-Stores-clause-absent : goal.returns-in_err-address-in-Stores-clause-absent
 returns-in_err-address-in-Stores-clause-absent c = λ t h.
     rw c.in-Stores.is (err_always _ (lacks_here (c.in_err-address-in-Stores.ensures.absent t h.hold)))
@@ -132,9 +99,6 @@ returns-in_err-address-in-Stores-clause-absent c = λ t h.
 pub returns-in_err-put_halves-in-Divides-clause-absent : goal.returns-in_err-put_halves-in-Divides-clause-absent
 returns-in_err-put_halves-in-Divides-clause-absent c = λ t h.
     rw c.in-Divides.is (err_always _ (rw (c.remainder_operator.ensures, c.quotient_operator.ensures) at (c.in_err-put_halves-in-Divides.ensures.absent t h.hold)))
-
-pub returns-in-Computes-clause-absent : goal.returns-in-Computes-clause-absent
-returns-in-Computes-clause-absent c = λ t h. rw c.in-Computes.is (c.computes.ensures.absent t h.hold)
 
 pub returns-in-Sets-clause-absent : goal.returns-in-Sets-clause-absent
 returns-in-Sets-clause-absent c = λ t h. rw c.in-Sets.is (on_err_weaker c.put_leaf.result lacks_here c.put_leaf.ensures.absent)

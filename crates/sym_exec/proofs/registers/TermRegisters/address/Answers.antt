@@ -3,9 +3,6 @@ use Rattle.sym_exec.specs.Symbolic.{register_tree}
 use Rattle.sym_exec.proofs.Tickets.{get_seen, get_tree, goes_on, goes_more, interns_by, address-is}
 use Rattle.sym_exec.proofs.registers.TermRegisters.address.Goals as goal
 
-pub address_at-from-requires : goal.address_at-from-requires
-address_at-from-requires c = get_seen c.requires c.get.ensures.value c.get.ensures.range
-
 pub returns-clause-tree : goal.returns-clause-tree
 returns-clause-tree c = λ t h.
     let x = register_tree t c.args.base in

@@ -9,9 +9,6 @@ returns-then-index-eq0-clause-hold c = λ t h.
     let none : c.args.d ≡ 0 = search rules in
     hold_same {t = t} h (sym (put_lost t.regs c.args.d _ (ap is_register none))) refl refl
 
-pub returns-then-index-eq0-clause-pass : goal.returns-then-index-eq0-clause-pass
-returns-then-index-eq0-clause-pass c = interns_by (goes_none c.args.terms.now) tt
-
 pub returns-clause-known : goal.returns-clause-known
 returns-clause-known c =
     known_put (known_on c.in_ok-value.ensures.pass.later c.requires) c.in_ok-value.ensures.seen c.set.ensures.value c.set.ensures.range c.set.ensures.count
@@ -20,12 +17,3 @@ pub returns-clause-hold : goal.returns-clause-hold
 returns-clause-hold c = λ t h.
     hold_put {t = t} (hold_on c.in_ok-value.ensures.pass.later h) (c.in_ok-value.ensures.tree t h)
     c.set.ensures.value c.set.ensures.range c.set.ensures.count
-
-pub returns-clause-pass : goal.returns-clause-pass
-returns-clause-pass c = interns_by (goes_on c.in_ok-value.ensures.pass) tt
-
-pub returns-in_err-value-clause-pass : goal.returns-in_err-value-clause-pass
-returns-in_err-value-clause-pass c = interns_by (goes_on c.in_err-value.ensures.pass) (search rules)
-
-pub returns-in_err-value-clause-absent : goal.returns-in_err-value-clause-absent
-returns-in_err-value-clause-absent c = λ t h. err_always _ (c.in_err-value.ensures.absent t h)

@@ -28,9 +28,6 @@ returns-clause-hold c = λ t h.
 pub returns-clause-pass : goal.returns-clause-pass
 returns-clause-pass c = interns_by (goes_more (goes_on c.in_ok-hi.ensures.pass) (goes_on c.in_ok-lo.ensures.pass)) tt
 
-pub returns-in_err-lo-clause-pass : goal.returns-in_err-lo-clause-pass
-returns-in_err-lo-clause-pass c = interns_by (goes_more (goes_on c.in_ok-hi.ensures.pass) (goes_on c.in_err-lo.ensures.pass)) (search rules)
-
 pub returns-in_err-hi-clause-absent : goal.returns-in_err-hi-clause-absent
 returns-in_err-hi-clause-absent c = λ t h.
     let x = get_tree {t = t} h c.get-x.ensures.value c.get-x.ensures.range in
