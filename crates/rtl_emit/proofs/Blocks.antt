@@ -1,7 +1,9 @@
 -- A list of blocks that grows.
-use Rattle.std.proofs.Common.{◌≡◌, ◌≢◌, ℕ, zero, suc, ◌+◌, ◌<◌, ◌≤◌, List, [], ◌∷◌, ◌++◌, Some, refl, ◌∙◌, ap, arith, length, length-append}
+use Rattle.std.proofs.Common.{◌≡◌, ◌≢◌, ℕ, zero, suc, ◌+◌, ◌<◌, ◌≤◌, List, [], ◌∷◌, ◌++◌, Some, refl, ◌∙◌, ap, arith, length}
 use Rattle.std.specs.Prelude.{slice_get, slice_set}
 use Rattle.std.proofs.Math.ListN.{length-set}
+use Rattle.std.proofs.lemmas.List.{length_push, get_or_push, get_or_append_left, get_or-set_same}
+use Rattle.std.proofs.lemmas.Option.{slice_get-get_or}
 use Rattle.rtl.specs.Meaning.{Code, code_of}
 use Rattle.rtl_emit.specs.Blocks.{Spot, Block, Line, line_of, insts_of, insts_at, insts_in, Grows, Has, At, Fills}
 use Rattle.rtl.specs.declared.block.RBlock.{RBlock}
@@ -20,35 +22,23 @@ has_front bs a b c g h = record { by = λ i le lt. h.by i le (omega (arith, g.lo
 pub has_back : (bs a b c : List RBlock) → Grows a b → Has bs a c → Has bs b c
 has_back bs a b c g h = record { by = λ i le lt. h.by i (omega (arith, g.longer)) lt }
 
-seam : (a : List RBlock) (b : RBlock) → slice_get (a ++ b ∷ []) (length a) ≡ Some b
-seam [] b = refl
-seam (x ∷ a) b = seam a b
-
-before_seam : (a : List RBlock) (b : RBlock) (i : ℕ) → i < length a → slice_get (a ++ b ∷ []) i ≡ slice_get a i
-before_seam [] b i lt = absurd (omega arith)
-before_seam (x ∷ a) b zero lt = refl
-before_seam (x ∷ a) b (suc i) lt = before_seam a b i (omega arith)
-
 pub one_longer : (old new : List RBlock) (b : RBlock) → new ≡ old ++ b ∷ [] → length new ≡ length old + 1
-one_longer old new b e = omega (arith, ap length e, length-append old (b ∷ []))
+one_longer old new b e = ap length e ∙ length_push old b
 
 pub grows_push : (old new : List RBlock) (b : RBlock) → new ≡ old ++ b ∷ [] → Grows old new
 grows_push old new b e = record {
   longer = omega (arith, one_longer old new b e);
-  kept = λ i lt. ap (λ l. slice_get l i) e ∙ before_seam old b i lt;
+  kept = λ i lt. let more : i < length (old ++ b ∷ []) = omega (arith, lt, length_push old b) in
+      rw (e, slice_get-get_or (old ++ b ∷ []) i b more, slice_get-get_or old i b lt) (ap Some (get_or_append_left old (b ∷ []) b i lt));
 }
 
 pub at_seam : (bs old new : List RBlock) (b : RBlock) (c : Code) → new ≡ old ++ b ∷ [] → code_of b ≡ c → Has bs old new → At bs (length old) c
 at_seam bs old new b c e is h = record {
   block = b;
-  there = h.by (length old) (omega arith) (omega (arith, one_longer old new b e)) ∙ ap (λ l. slice_get l (length old)) e ∙ seam old b;
+  there = h.by (length old) (omega arith) (omega (arith, one_longer old new b e)) ∙ ap (λ l. slice_get l (length old)) e
+      ∙ slice_get-get_or (old ++ b ∷ []) (length old) b (omega (arith, length_push old b)) ∙ ap Some (get_or_push old b b (length old) refl);
   is = is;
 }
-
-set_there : (l : List RBlock) (b : ℕ) (x : RBlock) → b < length l → slice_get (slice_set l b x) b ≡ Some x
-set_there [] b x lt = absurd (omega arith)
-set_there (y ∷ l) zero x lt = refl
-set_there (y ∷ l) (suc b) x lt = set_there l b x (omega arith)
 
 set_others : (l : List RBlock) (b : ℕ) (x : RBlock) (i : ℕ) → i ≢ b → slice_get (slice_set l b x) i ≡ slice_get l i
 set_others [] b x i ne = refl
@@ -61,7 +51,11 @@ pub fills_set : (old : List RBlock) (b : ℕ) (x : RBlock) (c : Code) → b < le
 fills_set old b x c lt is = record {
   same_length = length-set old b x;
   others = λ i ne. set_others old b x i ne;
-  at = record { block = x; there = set_there old b x lt; is = is };
+  at = record {
+    block = x;
+    there = slice_get-get_or (slice_set old b x) b x (omega (arith, lt, length-set old b x)) ∙ ap Some (get_or-set_same old b x x lt);
+    is = is;
+  };
 }
 
 -- the code of a list of instructions that is another one
@@ -78,8 +72,8 @@ pub insts_push : (old new : List RBlock) (b : RBlock) (c : Code) → new ≡ old
 insts_push old new b c e is = ap insts_in e ∙ pushed old
   where
     pushed : (l : List RBlock) → insts_in (l ++ b ∷ []) ≡ insts_in l + insts_of c
-    pushed [] = let n = ap insts_of is in omega (arith, n)
-    pushed (x ∷ l) = let n = pushed l in omega (arith, n)
+    pushed [] = omega (arith, ap insts_of is)
+    pushed (x ∷ l) = omega (arith, pushed l)
 
 pub insts_set : (old : List RBlock) (n : ℕ) (b : RBlock) (c : Code) → code_of b ≡ c → insts_in (slice_set old n b) ≤ insts_in old + insts_of c
 insts_set [] n b c is = omega arith
@@ -91,13 +85,9 @@ pub split2 : (bs a b c : List RBlock) → Grows a b → Grows b c → Has bs a c
 split2 bs a b c g1 g2 h = (has_front bs a b c g2 h, has_back bs a b c g1 h)
 
 pub split3 : (bs a b c d : List RBlock) → Grows a b → Grows b c → Grows c d → Has bs a d → Has bs a b × Has bs b c × Has bs c d
-split3 bs a b c d g1 g2 g3 h =
-    let s = split2 bs a b d g1 (grows_then b c d g2 g3) h in
-    let t = split2 bs b c d g2 g3 s.1 in
-    (s.0, t.0, t.1)
+split3 bs a b c d g1 g2 g3 h = let s = split2 bs a c d (grows_then a b c g1 g2) g3 h in
+    (has_front bs a b c g2 s.0, has_back bs a b c g1 s.0, s.1)
 
 pub split4 : (bs a b c d e : List RBlock) → Grows a b → Grows b c → Grows c d → Grows d e → Has bs a e → Has bs a b × Has bs b c × Has bs c d × Has bs d e
-split4 bs a b c d e g1 g2 g3 g4 h =
-    let s = split2 bs a b e g1 (grows_then b c e g2 (grows_then c d e g3 g4)) h in
-    let t = split3 bs b c d e g2 g3 g4 s.1 in
-    (s.0, t.0, t.1, t.2)
+split4 bs a b c d e g1 g2 g3 g4 h = let s = split3 bs a c d e (grows_then a b c g1 g2) g3 g4 h in
+    (has_front bs a b c g2 s.0, has_back bs a b c g1 s.0, s.1, s.2)

@@ -18,8 +18,7 @@ use Rattle.rtl_emit.specs.Expressions.{IsPlace, IsTruth, Gives, Evaluates, Fetch
 use Rattle.rtl_emit.specs.declared.operation.Operation.{Operation}
 use Rattle.rtl_emit.proofs.Operations.{straight_op}
 use Rattle.rtl_emit.proofs.Blocks.{split3}
-use Rattle.rtl_emit.proofs.Values.{combines}
-use Rattle.rtl_emit.proofs.Conditions.{plain_decides, negated_decides}
+use Rattle.rtl_emit.proofs.Values.{combines, plain_decides, negated_decides}
 
 -- what holds of every list of blocks that has those which were added
 abbrev pub Over : List RBlock → List RBlock → (List RBlock → Type 0) → Type 0

@@ -29,24 +29,22 @@ goes_one p depth s t e = record { count = 1; ends = e }
 pub moves_one : {p : Program} {depth : ℕ} {s t : Run} → rtl_step p depth s ≡ t → Moves p depth s t
 moves_one e = record { more = 0; ends = e }
 
-pub moves_then : {p : Program} {depth : ℕ} {s t u : Run} → Moves p depth s t → Goes p depth t u → Moves p depth s u
-moves_then {p} {depth} {s} a b =
-    let e : suc (a.more + b.count) ≡ suc a.more + b.count = omega arith in
-    record {
-      more = a.more + b.count;
-      ends = ap (λ n. rtl_steps p depth n s) e ∙ steps-add (rtl_step p depth) (suc a.more) b.count s ∙ ap (rtl_steps p depth b.count) a.ends ∙ b.ends;
-    }
-
-pub moves_after : {p : Program} {depth : ℕ} {s t u : Run} → Goes p depth s t → Moves p depth t u → Moves p depth s u
-moves_after {p} {depth} {s} a b =
-    let e : suc (a.count + b.more) ≡ a.count + suc b.more = omega arith in
-    record {
-      more = a.count + b.more;
-      ends = ap (λ n. rtl_steps p depth n s) e ∙ steps-add (rtl_step p depth) a.count (suc b.more) s ∙ ap (rtl_steps p depth (suc b.more)) a.ends ∙ b.ends;
-    }
-
 pub goes_of : {p : Program} {depth : ℕ} {s t : Run} → Moves p depth s t → Goes p depth s t
 goes_of a = record { count = suc a.more; ends = a.ends }
+
+pub moves_then : {p : Program} {depth : ℕ} {s t u : Run} → Moves p depth s t → Goes p depth t u → Moves p depth s u
+unfolding goes_of goes_then
+moves_then {p} {depth} {s} a b = let all = goes_then (goes_of a) b in record {
+  more = a.more + b.count;
+  ends = let e : suc (a.more + b.count) ≡ suc a.more + b.count = omega arith in ap (λ n. rtl_steps p depth n s) e ∙ all.ends;
+}
+
+pub moves_after : {p : Program} {depth : ℕ} {s t u : Run} → Goes p depth s t → Moves p depth t u → Moves p depth s u
+unfolding goes_of goes_then
+moves_after {p} {depth} {s} a b = let all = goes_then a (goes_of b) in record {
+  more = a.count + b.more;
+  ends = let e : suc (a.count + b.more) ≡ a.count + suc b.more = omega arith in ap (λ n. rtl_steps p depth n s) e ∙ all.ends;
+}
 
 pub with_some : {C A : Type 0} (o : Option A) (a : A) (out : List ℕ) (go : A → Configuration C) → o ≡ Some a → with_value o out go ≡ go a
 with_some o a out go e = ap (λ o. with_value o out go) e

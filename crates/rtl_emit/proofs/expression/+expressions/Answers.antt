@@ -5,12 +5,9 @@ use Rattle.rtl_emit.specs.Emits.{value_size, condition_size}
 use Rattle.rtl_emit.specs.Sizes.{joint, value_blocks, condition_blocks}
 use Rattle.rtl_emit.proofs.Blocks.{grows_then}
 use Rattle.rtl_emit.proofs.Emitted.{element_is, unary_is, binary_is, conditional_is}
-use Rattle.rtl_emit.proofs.Emitting.{element_emits, prefix_emits, identity_emits, not_emits, not_stops, told_emits, told_stops}
-use Rattle.rtl_emit.proofs.Emitting.{both_emits, operator_emits, part_refused, refused, grows_same}
-use Rattle.rtl_emit.proofs.EmittingBranches.{block_emits}
-use Rattle.rtl_emit.proofs.Emitting.{logical_branches, logical_stops}
-use Rattle.rtl_emit.proofs.EmittingBranches.{conditional_emits, constant_emits, not_branches, conditional_branches}
-use Rattle.rtl_emit.proofs.EmittingBranches.{contrary_emits, test_emits, operand_emits}
+use Rattle.rtl_emit.proofs.Emitting.{element_emits, prefix_emits, identity_emits, not_emits, not_stops, told_emits, told_stops, both_emits, operator_emits}
+use Rattle.rtl_emit.proofs.Emitting.{part_refused, refused, grows_same, block_emits, logical_branches, logical_stops, conditional_emits, constant_emits}
+use Rattle.rtl_emit.proofs.Emitting.{not_branches, conditional_branches, contrary_emits, test_emits, operand_emits}
 use Rattle.rtl_emit.proofs.Weights.{weight}
 use Rattle.rtl_emit.proofs.expression.+expressions.Goals as goal
 
@@ -208,28 +205,28 @@ branch_block-returns t c =
 
 pub value_into-element_into-requires : goal.value_into-element_into-requires
 value_into-element_into-requires t c =
-    let w = ap weight (element_is _ _ _ (ap typed_expression_of c.in-Element.is) c.deref.ensures) in (omega (arith, w), tt)
+    (omega (arith, ap weight (element_is _ _ _ (ap typed_expression_of c.in-Element.is) c.deref.ensures)), tt)
 
 pub value_into-unary_into-requires : goal.value_into-unary_into-requires
 value_into-unary_into-requires t c =
-    let w = ap weight (unary_is _ _ _ _ _ (ap typed_expression_of c.in-Unary.is) refl (ap typed_expression_of c.deref-in-Unary.ensures)) in (omega (arith, w), tt)
+    (omega (arith, ap weight (unary_is _ _ _ _ _ (ap typed_expression_of c.in-Unary.is) refl (ap typed_expression_of c.deref-in-Unary.ensures))), tt)
 
 pub value_into-binary_into-requires : goal.value_into-binary_into-requires
 value_into-binary_into-requires t c =
-    let w = ap weight (binary_is _ _ _ _ _ (ap typed_expression_of c.in-Binary.is) refl c.deref-in-Binary.ensures) in (omega (arith, w), tt)
+    (omega (arith, ap weight (binary_is _ _ _ _ _ (ap typed_expression_of c.in-Binary.is) refl c.deref-in-Binary.ensures)), tt)
 
 pub value_into-conditional_into-requires : goal.value_into-conditional_into-requires
 value_into-conditional_into-requires t c =
-    let w = ap weight (conditional_is _ _ _ (ap typed_expression_of c.in-Conditional.is) c.deref-in-Conditional.ensures) in (omega (arith, w), tt)
+    (omega (arith, ap weight (conditional_is _ _ _ (ap typed_expression_of c.in-Conditional.is) c.deref-in-Conditional.ensures)), tt)
 
 pub condition-sides-requires : goal.condition-sides-requires
 condition-sides-requires t c =
-    let w = ap weight (conditional_is _ _ _ (ap typed_expression_of c.in-Conditional.is) c.deref-in-Conditional.ensures) in (omega (arith, w), tt)
+    (omega (arith, ap weight (conditional_is _ _ _ (ap typed_expression_of c.in-Conditional.is) c.deref-in-Conditional.ensures)), tt)
 
 pub condition-logical_branches-requires : goal.condition-logical_branches-requires
 condition-logical_branches-requires t c =
-    let w = ap weight (binary_is _ _ _ _ _ (ap typed_expression_of c.in-Binary.is) refl c.deref-in-Logical.ensures) in (omega (arith, w), tt)
+    (omega (arith, ap weight (binary_is _ _ _ _ _ (ap typed_expression_of c.in-Binary.is) refl c.deref-in-Logical.ensures)), tt)
 
 pub condition-contrary_test-requires : goal.condition-contrary_test-requires
 condition-contrary_test-requires t c =
-    let w = ap weight (binary_is _ _ _ _ _ (ap typed_expression_of c.in-Binary.is) refl c.deref-in-Plain.ensures) in (omega (arith, w), tt)
+    (omega (arith, ap weight (binary_is _ _ _ _ _ (ap typed_expression_of c.in-Binary.is) refl c.deref-in-Plain.ensures)), tt)

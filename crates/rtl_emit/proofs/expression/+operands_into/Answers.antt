@@ -1,6 +1,6 @@
 use Rattle.std.proofs.Common.{◌≡◌, ap, arith, length, rules, suc}
 use Rattle.c_typed.specs.Shape.{typed_expressions_of}
-use Rattle.rtl_emit.proofs.EmittingBranches.{operands_emits}
+use Rattle.rtl_emit.proofs.Emitting.{operands_emits}
 use Rattle.rtl_emit.proofs.expression.+operands_into.Goals as goal
 
 pub returns : goal.returns
