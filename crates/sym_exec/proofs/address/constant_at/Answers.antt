@@ -1,4 +1,4 @@
-use Rattle.std.proofs.Common.{sym, ◌∙◌, rules}
+use Rattle.std.proofs.Common.{sym, rules}
 use Rattle.sym_exec.proofs.Tickets.{constant-node}
 use Rattle.sym_exec.proofs.address.constant_at.Goals as goal
 

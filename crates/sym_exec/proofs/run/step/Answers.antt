@@ -1,6 +1,6 @@
 use Rattle.std.proofs.Common.{refl, ap, arith}
 use Rattle.std.specs.Prelude.{vec_len}
-use Rattle.sym_exec.proofs.Tickets.{still_tree, goes_none, goes_on, interns_by, get_tree, known_on, known_put, hold_on, hold_put, hold_same, on_ok_weaker, ok_always, err_always, on_err_weaker, lacks_here}
+use Rattle.sym_exec.proofs.Tickets.{still_tree, goes_none, get_tree, known_on, known_put, hold_on, hold_put, hold_same, on_ok_weaker, ok_always, err_always, on_err_weaker, lacks_here}
 use Rattle.sym_exec.proofs.Chains.{chain-on, memory-on}
 use Rattle.sym_exec.proofs.Tracking.{tracks_on, tracks_guard, room_guard}
 use Rattle.sym_exec.proofs.run.step.Goals as goal

@@ -1,8 +1,8 @@
-use Rattle.std.proofs.Common.{◌∙◌, ◌+◌, map, drop, take, true, false, rules, arith, sym, ap, length-take}
+use Rattle.std.proofs.Common.{◌∙◌, ◌+◌, map, drop, take, true, false, arith, sym, ap, length-take}
 use Rattle.mips_isa.specs.Actions.{nop, action_of}
 use Rattle.sym_exec.specs.Growth.{growth_by_all, all_stores}
 use Rattle.sym_exec.proofs.Tracking.{nop_is, needed_more, needed_few, actions_here}
-use Rattle.sym_exec.proofs.Tickets.{goes_on, goes_more, interns_by, err_always, lacks_left, lacks_right}
+use Rattle.sym_exec.proofs.Tickets.{goes_on, goes_more, err_always, lacks_left, lacks_right}
 use Rattle.sym_exec.specs.Asked.{asked_by}
 use Rattle.sym_exec.proofs.run.steps.Goals as goal
 
@@ -47,9 +47,6 @@ loop-inst-preserved c =
       tracks = λ t h. let far = rw here at (was.tracks t h) in
           (_, c.in_ok-step.ensures.tracks far.0 far.1, far.2, λ p lacks. far.3 p (lacks_right (asked_by c.action.result far.0) lacks));
     }
-
-pub returns-in_err-step-clause-pass : goal.returns-in_err-step-clause-pass
-returns-in_err-step-clause-pass c = interns_by (goes_more c.loop-inst.invariant.goes (goes_on c.in_err-step.ensures.pass)) (search rules)
 
 pub returns-in_err-step-clause-absent : goal.returns-in_err-step-clause-absent
 returns-in_err-step-clause-absent c = λ t h.

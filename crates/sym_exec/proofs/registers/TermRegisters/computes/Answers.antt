@@ -1,5 +1,5 @@
 use Rattle.std.proofs.Common.{rules, ◌≡◌, refl, sym, ap}
-use Rattle.sym_exec.proofs.Tickets.{goes_on, interns_by, hold_on, known_on, known_put, hold_put, hold_same, goes_none, err_always}
+use Rattle.sym_exec.proofs.Tickets.{hold_on, known_on, known_put, hold_put, hold_same}
 use Rattle.mips_isa.specs.States.{is_register}
 use Rattle.mips_isa.proofs.Registers.{put_lost}
 use Rattle.sym_exec.proofs.registers.TermRegisters.computes.Goals as goal

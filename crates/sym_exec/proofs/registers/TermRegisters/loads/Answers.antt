@@ -1,5 +1,5 @@
-use Rattle.std.proofs.Common.{refl, rules}
-use Rattle.sym_exec.proofs.Tickets.{still_tree, later_more, goes_on, goes_more, interns_by, hold_on, known_on, known_put, hold_put, hold_same, err_always, lacks_here, lacks_next}
+use Rattle.std.proofs.Common.{refl}
+use Rattle.sym_exec.proofs.Tickets.{still_tree, later_more, hold_on, known_on, known_put, hold_put, hold_same, err_always, lacks_here, lacks_next}
 use Rattle.sym_exec.specs.Symbolic.{address_tree}
 use Rattle.sym_exec.proofs.Chains.{chain-on, memory-on}
 use Rattle.sym_exec.proofs.registers.TermRegisters.loads.Goals as goal
@@ -23,12 +23,6 @@ returns-clause-hold c = λ t h m.
 
 pub returns-clause-address : goal.returns-clause-address
 returns-clause-address c = λ t h. still_tree c.in_ok-value.ensures.pass.later.extends (c.in_ok-address.ensures.tree t h)
-
-pub returns-in_err-value-clause-pass : goal.returns-in_err-value-clause-pass
-returns-in_err-value-clause-pass c = interns_by (goes_more (goes_on c.in_ok-address.ensures.pass) (goes_on c.in_err-value.ensures.pass)) (search rules)
-
-pub returns-clause-pass : goal.returns-clause-pass
-returns-clause-pass c = interns_by (goes_more (goes_on c.in_ok-address.ensures.pass) (goes_on c.in_ok-value.ensures.pass)) tt
 
 pub returns-in_err-address-clause-absent : goal.returns-in_err-address-clause-absent
 returns-in_err-address-clause-absent c = λ t h m. err_always _ (lacks_here (c.in_err-address.ensures.absent t h))

@@ -1,5 +1,4 @@
-use Rattle.std.proofs.Common.{rules}
-use Rattle.sym_exec.proofs.Tickets.{still_seen, still_tree, later_more, goes_on, goes_more, interns_by, hold_on, known_on, get_seen, get_tree, err_always, lacks_here, lacks_next}
+use Rattle.sym_exec.proofs.Tickets.{still_seen, still_tree, later_more, hold_on, known_on, get_seen, get_tree, err_always, lacks_here, lacks_next}
 use Rattle.sym_exec.specs.Standing.{with_halves}
 use Rattle.sym_exec.proofs.registers.TermRegisters.put_halves.Goals as goal
 
@@ -24,9 +23,6 @@ returns-clause-hold c = λ t h.
       hi = still_tree c.in_ok-lo.ensures.pass.later.extends (c.in_ok-hi.ensures.tree _ _ x y);
       lo = c.in_ok-lo.ensures.tree _ _ (still_tree on x) (still_tree on y);
     }
-
-pub returns-clause-pass : goal.returns-clause-pass
-returns-clause-pass c = interns_by (goes_more (goes_on c.in_ok-hi.ensures.pass) (goes_on c.in_ok-lo.ensures.pass)) tt
 
 pub returns-in_err-hi-clause-absent : goal.returns-in_err-hi-clause-absent
 returns-in_err-hi-clause-absent c = λ t h.

@@ -1,6 +1,6 @@
 use Rattle.sym_terms.specs.declared.label.Label.TheVariants.{Load}
 use Rattle.sym_terms.specs.Trees.{none, more}
-use Rattle.sym_exec.proofs.Tickets.{still_tree, still_seen, goes_on, goes_more, interns_by, err_always}
+use Rattle.sym_exec.proofs.Tickets.{still_tree, still_seen, err_always}
 use Rattle.sym_exec.proofs.Chains.{chain-on}
 use Rattle.sym_exec.proofs.Parts.{lacks_first}
 use Rattle.sym_exec.proofs.stores.StoreChain.load_term.Goals as goal
@@ -17,10 +17,6 @@ binary-requires-clause-b c = still_seen c.in_ok-memory.ensures.pass.later.extend
 
 pub returns-clause-chain : goal.returns-clause-chain
 returns-clause-chain c = chain-on c.binary.ensures.pass.later c.in_ok-memory.ensures.chain
-
-pub returns-clause-pass : goal.returns-clause-pass
-returns-clause-pass c =
-    interns_by (goes_more (goes_on c.in_ok-memory.ensures.pass) (goes_on c.binary.ensures.pass)) c.binary.ensures.pass.full
 
 pub returns-in_err-memory-clause-absent : goal.returns-in_err-memory-clause-absent
 returns-in_err-memory-clause-absent c = λ m b h k.

@@ -1,6 +1,6 @@
 use Rattle.std.proofs.Common.{◌-◌, ◌<◌, take, length, suc, refl, arith, rules}
 use Rattle.std.proofs.lemmas.List.{get_or_default}
-use Rattle.sym_exec.proofs.Tickets.{tree_seen, goes_on, goes_more, interns_by, err_always}
+use Rattle.sym_exec.proofs.Tickets.{tree_seen, goes_on, goes_more, err_always}
 use Rattle.sym_exec.proofs.Chains.{lacks_behind, chain-on, chain-next, chain-push, memory-on}
 use Rattle.sym_exec.proofs.stores.StoreChain.memory_behind.Goals as goal
 
@@ -37,9 +37,6 @@ returns-clause-tree c = λ t made.
     let inside : k < length c.loop-self.self.memories.items = search rules in
     let here = rw (← i.stores) at (memory-on i.goes.later (take k c.args.self.now.stores.items) t made) in
     rw (c.index.ensures, ← get_or_default c.loop-self.self.memories.items k 0 _ inside) (i.chain.memories k inside t here)
-
-pub returns-in_err-memory-clause-pass : goal.returns-in_err-memory-clause-pass
-returns-in_err-memory-clause-pass c = interns_by (goes_more c.loop-self.invariant.goes (goes_on c.in_err-memory.ensures.pass)) (search rules)
 
 pub returns-in_err-memory-clause-absent : goal.returns-in_err-memory-clause-absent
 returns-in_err-memory-clause-absent c = λ t made.
