@@ -6,7 +6,8 @@ use Rattle.std.specs.List.{insert}
 use Rattle.std.proofs.Math.Seq.{take-suc, get_or-append_seam}
 use Rattle.std.proofs.lemmas.Bool.{false_from_ne_true, cases_eq}
 use Rattle.std.proofs.lemmas.List.Edits.{length-insert}
-use Rattle.std.proofs.lemmas.List.{append_assoc, get_or_append_left, take-append-le, take-append-drop, take-take, length_push, length-take, length-take-le, get_or-take, get_or_default}
+use Rattle.std.proofs.lemmas.List.{append_assoc, get_or_append_left, take-append-le, take-append-drop, take-take}
+use Rattle.std.proofs.lemmas.List.{length_push, length-take, length-take-le, get_or-take, get_or_default}
 use Rattle.words.specs.declared.width.Width.{Width}
 use Rattle.sym_terms.specs.declared.label.Label.TheVariants.{Mem0, Load, Store}
 use Rattle.sym_terms.specs.Trees.{Tree, none, more, leaf, binary, ternary}
@@ -86,8 +87,8 @@ module _ {p q : PassState} (e : Later p q) where
   }
 
 -- the ticket at a place, of the memory before the store there, which makes the next one
-pub chain-next : {p : PassState} {c : StoreChain} (k : ℕ) {m : ℕ} {s : Stored} → IsChain p c → k < length c.memories.items → m ≡ slice_index_or c.memories.items k m
-    → k < length c.stores.items → s ≡ slice_index_or c.stores.items k s
+pub chain-next : {p : PassState} {c : StoreChain} (k : ℕ) {m : ℕ} {s : Stored} → IsChain p c → k < length c.memories.items
+    → m ≡ slice_index_or c.memories.items k m → k < length c.stores.items → s ≡ slice_index_or c.stores.items k s
     → (t u : Tree) × MakeMemory p (take (suc k) c.stores.items) u × HasTree p m t × Makes p s t u
 chain-next {p} {c} k {m} {s} h old there inside is =
     let xs = c.stores.items in

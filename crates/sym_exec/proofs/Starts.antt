@@ -17,7 +17,11 @@ start_on {p} {q} {s} e h = record {
 -- also for a pass that has learned what this one knew
 pub start_learned : {p q : PassState} {s : TermPlaces} → Learns q p → IsStart p s → IsStart q s
 start_learned {p} {q} {s} e h = record {
-  known = record { regs = λ r lt. terms.learns_seen_term e (h.known.regs r lt); hi = terms.learns_seen_term e h.known.hi; lo = terms.learns_seen_term e h.known.lo };
+  known = record {
+    regs = λ r lt. terms.learns_seen_term e (h.known.regs r lt);
+    hi = terms.learns_seen_term e h.known.hi;
+    lo = terms.learns_seen_term e h.known.lo;
+  };
   hold = record { regs = λ r lt. terms.learns_term e (h.hold.regs r lt); hi = terms.learns_term e h.hold.hi; lo = terms.learns_term e h.hold.lo };
   memory = terms.learns_term e h.memory;
 }

@@ -163,7 +163,8 @@ pub constant-node : {p : PassState} {l : Label} (ks : List ℕ) {x : Tree} → I
     → (length ks ≤ 0 → constant_of x ≡ label_constant l) × (0 < length ks → constant_of x ≡ None)
 constant-node {p} {l} ks n = rw n.tree (go n.trees (count_of label_coding p ks n.trees n.have))
   where
-    go : (ts : Trees) → tree_count ts ≡ length ks → (length ks ≤ 0 → constant_of (node l ts) ≡ label_constant l) × (0 < length ks → constant_of (node l ts) ≡ None)
+    go : (ts : Trees) → tree_count ts ≡ length ks
+        → (length ks ≤ 0 → constant_of (node l ts) ≡ label_constant l) × (0 < length ks → constant_of (node l ts) ≡ None)
     go none e = ((λ _. refl), λ some. absurd (omega (arith, e, some)))
     go (more y ys) e = ((λ few. absurd (omega (arith, e, few))), λ _. refl)
 

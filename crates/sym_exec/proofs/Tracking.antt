@@ -35,7 +35,8 @@ use Rattle.sym_exec.specs.Runs.{needed}
 
 module _ {p q : PassState} (e : Later p q) where
   -- registers, HI or LO changed
-  pub tracks_on : {r s : TermRegisters} {l : RunLists} {t u : TreeState} → Tracks p r l t → Hold q s u → t.memory ≡ u.memory → t.guards ≡ u.guards → Tracks q s l u
+  pub tracks_on : {r s : TermRegisters} {l : RunLists} {t u : TreeState} → Tracks p r l t → Hold q s u → t.memory ≡ u.memory
+      → t.guards ≡ u.guards → Tracks q s l u
   tracks_on {l = l} {t = t} h hold memory guards = record {
     hold = hold;
     memory = rw (← memory) (memory-on e l.chain.stores.items t.memory h.memory);
@@ -97,8 +98,8 @@ nop_is (Shift Sll rd rt amount) is =
 nop_is _ is = absurd (true≢false (sym is))
 
 -- what runs actions and passes over a Nop's leaves what it leaves without the Nops
-module _ {S : Type 0} (run : List Action → S → S) (next : Action → S → S) (more : (a : Action) (rest : List Action) (s : S) → run (a ∷ rest) s ≡ run rest (next a s))
-    (keeps : (s : S) → next (action_of nop) s ≡ s) where
+module _ {S : Type 0} (run : List Action → S → S) (next : Action → S → S)
+    (more : (a : Action) (rest : List Action) (s : S) → run (a ∷ rest) s ≡ run rest (next a s)) (keeps : (s : S) → next (action_of nop) s ≡ s) where
   run_needed : (xs : List Plain) (s : S) → run (map action_of xs) s ≡ run (map action_of (needed xs)) s
   run_needed [] s = refl
   run_needed (x ∷ xs) s = cond_both (not (is_nop x)) (x ∷ needed xs) (needed xs) (λ ys. run (action_of x ∷ map action_of xs) s ≡ run (map action_of ys) s)
@@ -167,5 +168,12 @@ module _ {insts : List Plain} (both rest : List Plain) (is : insts ≡ both ++ r
   pub growth_in_parts : {n m : ℕ} {e : Exit} {more : List Action} → n ≡ 0 → m ≡ all_stores (map action_of both) 0 → e ≡ exit → more ≡ slots
       → growth_by_all (map action_of both) n + growth_from m (map action_of rest) e more ≡ growth_from 0 (map action_of insts) exit slots
   growth_in_parts none made leaves fills =
-      rw (none, made, leaves, fills, actions, growth_append (map action_of both) (map action_of rest) 0, stores_append (map action_of both) (map action_of rest) 0)
-      (omega arith)
+      rw (
+        none,
+        made,
+        leaves,
+        fills,
+        actions,
+        growth_append (map action_of both) (map action_of rest) 0,
+        stores_append (map action_of both) (map action_of rest) 0,
+      ) (omega arith)

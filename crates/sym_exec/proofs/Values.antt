@@ -64,7 +64,8 @@ module _ (s : State) (link : ℕ) (words : IsWords s) (low : link < 2 ^ 32) wher
   step-value (Multiplies sign a b) t =
       ap₂ (λ h l. record (values s link t) { hi = h; lo = l }) (value-at (product_high sign) t a (Held b)) (value-at (product_low sign) t a (Held b))
   step-value (Divides sign a b) t =
-      ap₂ (λ h l. record (values s link t) { hi = h; lo = l }) (value-at (remainder_operator sign) t a (Held b)) (value-at (quotient_operator sign) t a (Held b))
+      ap₂ (λ h l. record (values s link t) { hi = h; lo = l }) (value-at (remainder_operator sign) t a (Held b))
+      (value-at (quotient_operator sign) t a (Held b))
   step-value (MovesHigh d) t = regs_step t d _ _ refl
   step-value (MovesLow d) t = regs_step t d _ _ refl
 

@@ -5,7 +5,8 @@ use Rattle.sym_exec.specs.Asked.{block_asked, order_asked}
 use Rattle.sym_exec.specs.Growth.{all_stores}
 use Rattle.sym_exec.specs.Symbolic.{start_trees}
 use Rattle.sym_exec.specs.Runs.{needed}
-use Rattle.sym_exec.proofs.Tracking.{same_trees, same_stores, needed_few, stands_in_parts, lacks_early, lacks_late, growth_in_parts, tracks_copied, chain_copied}
+use Rattle.sym_exec.proofs.Tracking.{same_trees, same_stores, needed_few, stands_in_parts, lacks_early}
+use Rattle.sym_exec.proofs.Tracking.{lacks_late, growth_in_parts, tracks_copied, chain_copied}
 use Rattle.sym_exec.proofs.Tickets.{goes_on, goes_more, interns_by, known_on, stands_for_on, err_always, lacks_left, lacks_right}
 use Rattle.sym_exec.proofs.run.run_pair_from.Goals as goal
 
@@ -16,7 +17,8 @@ copy_from-requires-clause-guards c =
     let alike = ap needed c.split_at.ensures.front ∙ (c.shared_counts-shared.ensures.same ∙ sym (ap needed c.split_at-2.ensures.front)) in
     let few = rw (← alike) at (needed_few c.split_at-2.result.0.now) in
     let whole = ap length c.insts-theirs.ensures.value in
-    omega (arith, c.in_ok-steps.ensures.guards, none, empty, few, c.split_at-2.ensures.front_len, c.split_at-2.ensures.back_len, whole, c.requires.order_room.few)
+    let cut = c.split_at-2.ensures in
+    omega (arith, c.in_ok-steps.ensures.guards, none, empty, few, cut.front_len, cut.back_len, whole, c.requires.order_room.few)
 
 pub finish-requires-clause-few : goal.finish-requires-clause-few
 finish-requires-clause-few c =
@@ -41,7 +43,8 @@ finish-requires-2 c =
       known = known_on c.in_ok-first.ensures.pass.later c.in_ok-steps.ensures.known;
       chain = chain_copied c.in_ok-first.ensures.pass.later c.in_ok-steps.ensures.chain copy.stores copy.memories;
       room = copy.room;
-      few = omega (arith, copy.count, copy.capacity, c.in_ok-steps.ensures.guards, none, empty, few, cut.front_len, cut.back_len, whole, c.requires.order_room.few);
+      few = let ran = c.in_ok-steps.ensures.guards in
+          omega (arith, copy.count, copy.capacity, ran, none, empty, few, cut.front_len, cut.back_len, whole, c.requires.order_room.few);
     }
 
 pub returns-in_err-steps : goal.returns-in_err-steps
@@ -71,7 +74,8 @@ returns-in_err-first c =
     record {
       block = search rules;
       order = search rules;
-      absent = err_always _ (lacks_left (order_asked c.args.order.now) (lacks_late both rest is exit [] (rw c.exit.ensures at (c.in_err-first.ensures.absent _ shared))));
+      absent = err_always _ (lacks_left (order_asked c.args.order.now)
+          (lacks_late both rest is exit [] (rw c.exit.ensures at (c.in_err-first.ensures.absent _ shared))));
       pass = interns_by (goes_more (goes_on c.in_ok-steps.ensures.pass) (goes_on c.in_err-first.ensures.pass)) (search rules);
       grows = omega (arith, c.in_ok-steps.ensures.grows, c.in_err-first.ensures.grows, growth_in_parts both rest is exit [] none made c.exit.ensures refl);
     }

@@ -1,6 +1,7 @@
 use Rattle.std.proofs.Common.{rules, refl, ◌≡◌, ◌<◌, length, ◌∙◌, arith}
 use Rattle.std.proofs.Math.ListN.{length-set}
-use Rattle.sym_exec.proofs.Tickets.{still_tree, tree_seen, later_more, goes_on, goes_more, interns_by, set_at, start_of, err_always, lacks_here, lacks_next, lacks_start}
+use Rattle.sym_exec.proofs.Tickets.{still_tree, tree_seen, later_more, goes_on, goes_more, interns_by}
+use Rattle.sym_exec.proofs.Tickets.{set_at, start_of, err_always, lacks_here, lacks_next, lacks_start}
 use Rattle.sym_exec.specs.MipsTerms.{HasTree}
 use Rattle.sym_exec.specs.Symbolic.{start_trees, register_tree}
 use Rattle.sym_exec.specs.Asked.{asked_first}
@@ -53,7 +54,8 @@ pub returns-in_err-hi-clause-pass : goal.returns-in_err-hi-clause-pass
 returns-in_err-hi-clause-pass c = interns_by (goes_more c.loop-r.invariant.goes (goes_on c.in_err-hi.ensures.pass)) (search rules)
 
 pub returns-in_err-lo-clause-pass : goal.returns-in_err-lo-clause-pass
-returns-in_err-lo-clause-pass c = interns_by (goes_more (goes_more c.loop-r.invariant.goes (goes_on c.in_ok-hi.ensures.pass)) (goes_on c.in_err-lo.ensures.pass)) (search rules)
+returns-in_err-lo-clause-pass c =
+    interns_by (goes_more (goes_more c.loop-r.invariant.goes (goes_on c.in_ok-hi.ensures.pass)) (goes_on c.in_err-lo.ensures.pass)) (search rules)
 
 pub returns-in_err-zero-clause-absent : goal.returns-in_err-zero-clause-absent
 returns-in_err-zero-clause-absent c = err_always _ (lacks_start 0 (omega arith) c.in_err-zero.ensures.absent)

@@ -1,6 +1,7 @@
 use Rattle.std.proofs.Common.{refl, ap, arith}
 use Rattle.std.specs.Prelude.{vec_len}
-use Rattle.sym_exec.proofs.Tickets.{still_tree, goes_none, get_tree, known_on, known_put, hold_on, hold_put, hold_same, on_ok_weaker, ok_always, err_always, on_err_weaker, lacks_here}
+use Rattle.sym_exec.proofs.Tickets.{still_tree, goes_none, get_tree, known_on, known_put, hold_on, hold_put}
+use Rattle.sym_exec.proofs.Tickets.{hold_same, on_ok_weaker, ok_always, err_always, on_err_weaker, lacks_here}
 use Rattle.sym_exec.proofs.Chains.{chain-on, memory-on}
 use Rattle.sym_exec.proofs.Tracking.{tracks_on, tracks_guard, room_guard}
 use Rattle.sym_exec.proofs.run.step.Goals as goal
@@ -43,7 +44,8 @@ returns-in_ok-put_halves-in-Divides-clause-tracks c = λ t h.
 
 pub returns-in-MovesHigh-clause-tracks : goal.returns-in-MovesHigh-clause-tracks
 returns-in-MovesHigh-clause-tracks c = λ t h.
-    rw c.in-MovesHigh.is (tracks_on (goes_none c.args.terms.now).later h (hold_put {t = t} h.hold h.hold.hi c.set.ensures.value c.set.ensures.range c.set.ensures.count) refl refl)
+    rw c.in-MovesHigh.is (tracks_on (goes_none c.args.terms.now).later h
+    (hold_put {t = t} h.hold h.hold.hi c.set.ensures.value c.set.ensures.range c.set.ensures.count) refl refl)
 
 pub returns-in-MovesLow-clause-tracks : goal.returns-in-MovesLow-clause-tracks
 returns-in-MovesLow-clause-tracks c = λ t h.
@@ -69,19 +71,20 @@ returns-in_ok-put_halves-in-Divides-clause-chain c =
 pub returns-in_ok-address-in-Loads-clause-room : goal.returns-in_ok-address-in-Loads-clause-room
 returns-in_ok-address-in-Loads-clause-room c =
     let d = c.in_ok-address-in-Loads.ensures in
-    room_guard c.args.lists.now c.push_guard.new.self c.loads.new.chain (rw d.stores c.requires.room.guards) d.room (omega (arith, c.requires.room.few, ap vec_len d.stores))
-    c.push_guard.ensures.count c.push_guard.ensures.capacity c.push_guard.ensures.chain
+    room_guard c.args.lists.now c.push_guard.new.self c.loads.new.chain (rw d.stores c.requires.room.guards) d.room
+    (omega (arith, c.requires.room.few, ap vec_len d.stores)) c.push_guard.ensures.count c.push_guard.ensures.capacity c.push_guard.ensures.chain
 
 pub returns-in_ok-address-in-Stores-clause-room : goal.returns-in_ok-address-in-Stores-clause-room
 returns-in_ok-address-in-Stores-clause-room c =
     let d = c.in_ok-address-in-Stores.ensures in
-    room_guard c.args.lists.now c.push_guard-in-Stores.new.self c.stores.new.chain (rw d.capacity c.requires.room.guards) d.room (omega (arith, c.requires.room.few, d.count))
+    room_guard c.args.lists.now c.push_guard-in-Stores.new.self c.stores.new.chain (rw d.capacity c.requires.room.guards) d.room
+    (omega (arith, c.requires.room.few, d.count))
     c.push_guard-in-Stores.ensures.count c.push_guard-in-Stores.ensures.capacity c.push_guard-in-Stores.ensures.chain
 
 pub returns-in_ok-put_halves-in-Divides-clause-room : goal.returns-in_ok-put_halves-in-Divides-clause-room
 returns-in_ok-put_halves-in-Divides-clause-room c =
-    room_guard c.args.lists.now c.push_guard-in-Divides.new.self c.args.lists.now.chain c.requires.room.guards c.requires.room.chain (omega (arith, c.requires.room.few))
-    c.push_guard-in-Divides.ensures.count c.push_guard-in-Divides.ensures.capacity c.push_guard-in-Divides.ensures.chain
+    room_guard c.args.lists.now c.push_guard-in-Divides.new.self c.args.lists.now.chain c.requires.room.guards c.requires.room.chain
+    (omega (arith, c.requires.room.few)) c.push_guard-in-Divides.ensures.count c.push_guard-in-Divides.ensures.capacity c.push_guard-in-Divides.ensures.chain
 
 pub returns-in-MovesHigh-clause-known : goal.returns-in-MovesHigh-clause-known
 returns-in-MovesHigh-clause-known c =
@@ -98,10 +101,12 @@ returns-in_err-address-in-Stores-clause-absent c = λ t h.
 
 pub returns-in_err-put_halves-in-Divides-clause-absent : goal.returns-in_err-put_halves-in-Divides-clause-absent
 returns-in_err-put_halves-in-Divides-clause-absent c = λ t h.
-    rw c.in-Divides.is (err_always _ (rw (c.remainder_operator.ensures, c.quotient_operator.ensures) at (c.in_err-put_halves-in-Divides.ensures.absent t h.hold)))
+    rw c.in-Divides.is (err_always _ (rw (c.remainder_operator.ensures, c.quotient_operator.ensures) at
+    (c.in_err-put_halves-in-Divides.ensures.absent t h.hold)))
 
 pub returns-in-Sets-clause-absent : goal.returns-in-Sets-clause-absent
 returns-in-Sets-clause-absent c = λ t h. rw c.in-Sets.is (on_err_weaker c.put_leaf.result lacks_here c.put_leaf.ensures.absent)
 
 pub returns-in-Multiplies-clause-absent : goal.returns-in-Multiplies-clause-absent
-returns-in-Multiplies-clause-absent c = λ t h. rw c.in-Multiplies.is (rw (c.product_high.ensures, c.product_low.ensures) at (c.put_halves.ensures.absent t h.hold))
+returns-in-Multiplies-clause-absent c = λ t h.
+    rw c.in-Multiplies.is (rw (c.product_high.ensures, c.product_low.ensures) at (c.put_halves.ensures.absent t h.hold))

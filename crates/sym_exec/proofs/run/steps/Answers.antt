@@ -41,7 +41,8 @@ loop-inst-preserved c =
       stores = ap (all_stores after) is ∙ rw here at was.stores;
       chain = c.in_ok-step.ensures.chain;
       room = c.in_ok-step.ensures.room;
-      guards = let one = needed_more c.args.insts.now c.loop-inst.inst-index false c.loop-inst-test.true c.inst-item.is (sym c.is_nop.ensures ∙ c.if-is_nop.false) in
+      guards = let one = needed_more c.args.insts.now c.loop-inst.inst-index false c.loop-inst-test.true c.inst-item.is
+          (sym c.is_nop.ensures ∙ c.if-is_nop.false) in
           omega (arith, was.guards, c.in_ok-step.ensures.guards, one);
       capacity = c.in_ok-step.ensures.capacity ∙ was.capacity;
       tracks = λ t h. let far = rw here at (was.tracks t h) in

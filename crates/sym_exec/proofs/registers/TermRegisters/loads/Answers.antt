@@ -16,8 +16,8 @@ pub returns-clause-hold : goal.returns-clause-hold
 returns-clause-hold c = λ t h m.
     let before = c.in_ok-address.ensures.pass.later in
     let all = later_more before c.in_ok-value.ensures.pass.later in
-    let value = c.in_ok-value.ensures.tree t.memory (address_tree t c.args.access.base c.args.access.offset) (memory-on before c.args.chain.now.stores.items t.memory m)
-    (c.in_ok-address.ensures.tree t h) in
+    let value = c.in_ok-value.ensures.tree t.memory (address_tree t c.args.access.base c.args.access.offset)
+    (memory-on before c.args.chain.now.stores.items t.memory m) (c.in_ok-address.ensures.tree t h) in
     let put = hold_put {t = t} (hold_on all h) value c.set.ensures.value c.set.ensures.range c.set.ensures.count in
     hold_same (rw c.reg.ensures.value at put) refl refl refl
 

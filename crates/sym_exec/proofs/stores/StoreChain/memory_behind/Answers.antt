@@ -25,7 +25,8 @@ loop-self-preserved c =
       goes = goes_more i.goes (goes_on c.in_ok-memory.ensures.pass);
       grows = omega (arith, i.grows, c.in_ok-memory.ensures.grows);
       chain = chain-push (c.len-made.result - 1) next.1 c.in_ok-memory.ensures.pass.later i.chain (search rules) (search rules) next.2
-          (rw next.4.tree (c.in_ok-memory.ensures.tree next.0 next.4.address next.4.value next.3 next.4.has_address next.4.has_value)) refl c.push_reserved.ensures.items;
+          (rw next.4.tree (c.in_ok-memory.ensures.tree next.0 next.4.address next.4.value next.3 next.4.has_address next.4.has_value))
+          refl c.push_reserved.ensures.items;
       stores = i.stores;
       room = search rules;
     }
@@ -46,4 +47,5 @@ returns-in_err-memory-clause-absent c = λ t made.
     let lacks = c.in_err-memory.ensures.absent next.0 next.4.address next.4.value next.3 next.4.has_address next.4.has_value in
     let here = rw (← i.stores) at (memory-on i.goes.later (take c.args.count c.args.self.now.stores.items) t made) in
     let low : k < c.args.count = search rules in
-    err_always _ (lacks_behind c.loop-self.terms.pass.now c.ternary.new.self.pass.now next.1 (suc k) c.args.count c.loop-self.self.stores.items t low next.2 (rw next.4.tree lacks) here)
+    err_always _ (lacks_behind c.loop-self.terms.pass.now c.ternary.new.self.pass.now next.1 (suc k) c.args.count
+    c.loop-self.self.stores.items t low next.2 (rw next.4.tree lacks) here)
