@@ -269,7 +269,7 @@ not_emits old mid new o k a b d free tr t after r prefix ib it truth last =
     told bs (unary U.Not k a) d tr.yes tr.no free (open_code from) after (not_tests k a) (truth.truth bs p.0)
     (not_decides bs k a tr.yes tr.no free (open_code from) (does bs p.1))))
 
-logical_is : (both : Bool) → is_logical (logical_of both) ≡ true
+pub logical_is : (both : Bool) → is_logical (logical_of both) ≡ true
 logical_is true = refl
 logical_is false = refl
 
@@ -317,13 +317,6 @@ logical_branches both b0 b1 new k l r t t' free block x it second last' =
     let d = second.does bs p.0 in
     logical_decides both bs k l r t block free (open_code from) d.0 (does bs p.1) d.1 d.2)
 
--- the block of its right operand is refused
-pub logical_stops : (both : Bool) (old new : List RBlock) (k : IntegerType) (l r : TypedExpression) (t : Targets) (free : ℕ) (f : LowerFault)
-    (x : Result OpenBlock LowerFault) → x ≡ Err f → Emits (own_branch r t free) old new (Err f)
-    → Emits (condition_branch (binary (logical_of both) k l r) t free) old new x
-logical_stops both old new k l r t free f x is e =
-    part_refused 0 e is (rw (logical_is both) (omega arith)) (rw (logical_is both) (omega arith)) (omega arith) (grows_same old) (omega arith)
-
 -- a value that branches tell
 told_value : (old b0 new : List RBlock) (e : TypedExpression) (t : Targets) (d free : ℕ) (after : Spot) (x : Result OpenBlock LowerFault)
     → Truth old b0 d t after → IsTest e → value_registers e free ≡ condition_registers e true free
@@ -343,12 +336,6 @@ told_value old b0 new e t d free after x tr tests registers blocks insts last =
     (λ from does bs h.
     let p = split2 bs old b0 new tr.grows last.grows h in
     told bs e d t.yes t.no free (open_code from) after tests (tr.truth bs p.0) (does bs p.1))
-
--- the two blocks of a truth value are refused
-pub truth_stops : (old new : List RBlock) (e : TypedExpression) (d free : ℕ) (after : Spot) (f : LowerFault) (x : Result OpenBlock LowerFault)
-    → x ≡ Err f → Grows old new → joint after + 2 ≤ value_blocks e (joint after)
-    → (f ≡ Limit → MAX_BLOCKS < length old + (joint after + 2)) → Emits (value e d free after) old new x
-truth_stops old new e d free after f x is g more limit = stopped f is g (λ l. omega (arith, more, limit l))
 
 pub told_emits : (both : Bool) (old b0 new : List RBlock) (k : IntegerType) (l r : TypedExpression) (t : Targets) (d free : ℕ) (after : Spot)
     (x : Result OpenBlock LowerFault) → Truth old b0 d t after
@@ -413,20 +400,6 @@ operator_emits old new o k op l r d free code after (Ok w) x computes plain fe p
     (finds_to (fw ∙ ap (first (inst_of op d w.first.register w.second.register)) fe) m.2)))
 operator_emits old new o k op l r d free code after (Err f) x computes plain fe pl pr fw sound room limit two err =
     refused f err.0 err.1 (λ is. omega (arith, operator_registers o k l r free plain, limit is))
-
-pub told_stops : (both : Bool) (old new : List RBlock) (k : IntegerType) (l r : TypedExpression) (d free : ℕ) (after : Spot) (f : LowerFault)
-    (x : Result OpenBlock LowerFault) → x ≡ Err f → Grows old new → (f ≡ Limit → MAX_BLOCKS < length old + (joint after + 2))
-    → Emits (value (binary (logical_of both) k l r) d free after) old new x
-told_stops both old new k l r d free after f x is g limit =
-    truth_stops old new (binary (logical_of both) k l r) d free after f x is g (rw (logical_is both) (omega arith)) limit
-
-pub not_stops : (old new : List RBlock) (o : UnaryOp) (k : IntegerType) (a : TypedExpression) (b : Bool) (d free : ℕ) (after : Spot) (f : LowerFault)
-    (x : Result OpenBlock LowerFault) → x ≡ Err f → IsPrefix o b P.Branches → b ≡ by_branches a → Grows old new
-    → (f ≡ Limit → MAX_BLOCKS < length old + (joint after + 2)) → Emits (value (unary o k a) d free after) old new x
-not_stops old new o k a b d free after f x is prefix ib g limit =
-    let by : by_branches a ≡ true = sym ib ∙ prefix.1 in
-    subst (λ o. Emits (value (unary o k a) d free after) old new x) (sym prefix.0)
-    (truth_stops old new (unary U.Not k a) d free after f x is g (rw by (omega arith)) limit)
 
 -- code as a block of its own
 pub block_emits : (old mid new : List RBlock) (size : Size) (Needs Needs' : Scope → Type 0) (Is : List RBlock → Code → Type 0) (code : OpenBlock)

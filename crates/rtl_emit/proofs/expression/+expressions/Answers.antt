@@ -1,12 +1,12 @@
-use Rattle.std.proofs.Common.{◌+◌, ap, arith, refl, rules, sym}
+use Rattle.std.proofs.Common.{◌+◌, ◌∙◌, ap, arith, refl, rules, sym}
 use Rattle.c_typed.specs.Shape.{typed_expression_of}
 use Rattle.rtl_emit.specs.Blocks.{spot}
 use Rattle.rtl_emit.specs.Emits.{value_size, condition_size}
 use Rattle.rtl_emit.specs.Sizes.{joint, value_blocks, condition_blocks}
 use Rattle.rtl_emit.proofs.Blocks.{grows_then}
 use Rattle.rtl_emit.proofs.Emitted.{element_is, unary_is, binary_is, conditional_is}
-use Rattle.rtl_emit.proofs.Emitting.{element_emits, prefix_emits, identity_emits, not_emits, not_stops, told_emits, told_stops, both_emits, operator_emits}
-use Rattle.rtl_emit.proofs.Emitting.{part_refused, refused, grows_same, block_emits, logical_branches, logical_stops, conditional_emits, constant_emits}
+use Rattle.rtl_emit.proofs.Emitting.{logical_is, stopped, element_emits, prefix_emits, identity_emits, not_emits, told_emits, both_emits, operator_emits}
+use Rattle.rtl_emit.proofs.Emitting.{part_refused, refused, grows_same, block_emits, logical_branches, conditional_emits, constant_emits}
 use Rattle.rtl_emit.proofs.Emitting.{not_branches, conditional_branches, contrary_emits, test_emits, operand_emits}
 use Rattle.rtl_emit.proofs.Weights.{weight}
 use Rattle.rtl_emit.proofs.expression.+expressions.Goals as goal
@@ -48,8 +48,8 @@ unary_into-returns-in-Same t c = λ k.
 pub unary_into-returns-in_err-truth-in-Branches : goal.unary_into-returns-in_err-truth-in-Branches
 unary_into-returns-in_err-truth-in-Branches t c = λ k.
     let truth = c.in_err-truth-in-Branches.ensures in
-    not_stops _ _ _ k _ _ c.args.aim.to c.args.aim.free (spot c.args.aim.after) c.in_err-truth-in-Branches.field-0.0 _ (search rules) c.in-Branches.ensures
-    c.is_logical.ensures truth.grows truth.limit
+    rw (c.in-Branches.ensures.0, sym c.is_logical.ensures ∙ c.in-Branches.ensures.1) (stopped c.in_err-truth-in-Branches.field-0.0 (search rules) truth.grows
+    (λ is. omega (arith, truth.limit is)))
 
 pub unary_into-returns-in_ok-truth-in-Branches : goal.unary_into-returns-in_ok-truth-in-Branches
 unary_into-returns-in_ok-truth-in-Branches t c = λ k.
@@ -77,7 +77,7 @@ binary_into-returns-in-Plain t c =
 pub told_into-returns-in_err-truth : goal.told_into-returns-in_err-truth
 told_into-returns-in_err-truth t c = λ k.
     let truth = c.in_err-truth.ensures in
-    told_stops c.args.both _ _ k _ _ c.args.aim.to c.args.aim.free (spot c.args.aim.after) c.in_err-truth.field-0.0 _ (search rules) truth.grows truth.limit
+    stopped c.in_err-truth.field-0.0 (search rules) truth.grows (rw (logical_is c.args.both) (λ is. omega (arith, truth.limit is)))
 
 pub told_into-returns : goal.told_into-returns
 told_into-returns t c = λ k.
@@ -172,7 +172,8 @@ contrary_test-returns t c = λ o k computes plain has unlikely.
 
 pub logical_branches-returns-in_err-second : goal.logical_branches-returns-in_err-second
 logical_branches-returns-in_err-second t c = λ k.
-    logical_stops c.args.both _ _ k _ _ c.args.targets _ c.in_err-second.field-0.0 _ (search rules) c.in_err-second.ensures
+    let plain = logical_is c.args.both in
+    part_refused 0 c.in_err-second.ensures (search rules) (rw plain (omega arith)) (rw plain (omega arith)) (omega arith) (grows_same _) (omega arith)
 
 pub logical_branches-returns : goal.logical_branches-returns
 logical_branches-returns t c = λ k.
