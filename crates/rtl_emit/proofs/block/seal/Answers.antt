@@ -1,6 +1,6 @@
 use Rattle.std.proofs.Common.{sym, subst, ◌∙◌, arith}
 use Rattle.rtl_emit.specs.Blocks.{open_code, At}
-use Rattle.rtl_emit.proofs.Blocks.{coded, at_seam, grows_push, one_longer, insts_push}
+use Rattle.rtl_emit.proofs.Blocks.{coded, at_seam, one_longer, insts_push}
 use Rattle.rtl_emit.proofs.Sound.{sound_push}
 use Rattle.rtl_emit.proofs.block.seal.Goals as goal
 
@@ -8,9 +8,6 @@ pub returns-clause-at : goal.returns-clause-at
 returns-clause-at c = λ bs h.
     subst (λ n. At bs n (open_code c.args.code)) (sym (c.len-number.ensures ∙ c.args.blocks.now.ok.0))
     (at_seam bs _ _ _ (open_code c.args.code) c.in_ok-put_block.ensures.added (coded c.reverse.ensures.items) h)
-
-pub returns-clause-grows : goal.returns-clause-grows
-returns-clause-grows c = grows_push _ _ _ c.in_ok-put_block.ensures.added
 
 pub returns-clause-insts : goal.returns-clause-insts
 returns-clause-insts c = insts_push _ _ _ (open_code c.args.code) c.in_ok-put_block.ensures.added (coded c.reverse.ensures.items)

@@ -8,11 +8,7 @@ use Rattle.rtl_emit.proofs.Emitted.{element_is, unary_is, binary_is, conditional
 use Rattle.rtl_emit.proofs.Emitting.{logical_is, stopped, element_emits, prefix_emits, identity_emits, not_emits, told_emits, both_emits, operator_emits}
 use Rattle.rtl_emit.proofs.Emitting.{part_refused, refused, grows_same, block_emits, logical_branches, conditional_emits, constant_emits}
 use Rattle.rtl_emit.proofs.Emitting.{not_branches, conditional_branches, contrary_emits, test_emits, operand_emits}
-use Rattle.rtl_emit.proofs.Weights.{weight}
 use Rattle.rtl_emit.proofs.expression.+expressions.Goals as goal
-
-pub value_into-returns-in-Constant : goal.value_into-returns-in-Constant
-value_into-returns-in-Constant t c = rw (ap typed_expression_of c.in-Constant.is) (c.number_into.ensures _)
 
 pub value_into-returns-in-Local : goal.value_into-returns-in-Local
 value_into-returns-in-Local t c = rw (ap typed_expression_of c.in-Local.is) (c.local_into.ensures _ _)
@@ -203,31 +199,3 @@ branch_block-returns t c =
     let made = c.seal.ensures in
     block_emits _ _ _ (condition_size (typed_expression_of c.args.e.now) c.args.targets.likely c.args.free) _ _ _ c.in_ok-code.code _ c.in_ok-code.ensures
     (λ s named h. (named, h)) made.grows made.count made.insts made.limit made.sound made.at
-
-pub value_into-element_into-requires : goal.value_into-element_into-requires
-value_into-element_into-requires t c =
-    (omega (arith, ap weight (element_is _ _ _ (ap typed_expression_of c.in-Element.is) c.deref.ensures)), tt)
-
-pub value_into-unary_into-requires : goal.value_into-unary_into-requires
-value_into-unary_into-requires t c =
-    (omega (arith, ap weight (unary_is _ _ _ _ _ (ap typed_expression_of c.in-Unary.is) refl (ap typed_expression_of c.deref-in-Unary.ensures))), tt)
-
-pub value_into-binary_into-requires : goal.value_into-binary_into-requires
-value_into-binary_into-requires t c =
-    (omega (arith, ap weight (binary_is _ _ _ _ _ (ap typed_expression_of c.in-Binary.is) refl c.deref-in-Binary.ensures)), tt)
-
-pub value_into-conditional_into-requires : goal.value_into-conditional_into-requires
-value_into-conditional_into-requires t c =
-    (omega (arith, ap weight (conditional_is _ _ _ (ap typed_expression_of c.in-Conditional.is) c.deref-in-Conditional.ensures)), tt)
-
-pub condition-sides-requires : goal.condition-sides-requires
-condition-sides-requires t c =
-    (omega (arith, ap weight (conditional_is _ _ _ (ap typed_expression_of c.in-Conditional.is) c.deref-in-Conditional.ensures)), tt)
-
-pub condition-logical_branches-requires : goal.condition-logical_branches-requires
-condition-logical_branches-requires t c =
-    (omega (arith, ap weight (binary_is _ _ _ _ _ (ap typed_expression_of c.in-Binary.is) refl c.deref-in-Logical.ensures)), tt)
-
-pub condition-contrary_test-requires : goal.condition-contrary_test-requires
-condition-contrary_test-requires t c =
-    (omega (arith, ap weight (binary_is _ _ _ _ _ (ap typed_expression_of c.in-Binary.is) refl c.deref-in-Plain.ensures)), tt)

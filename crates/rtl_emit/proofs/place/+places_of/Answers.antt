@@ -1,4 +1,4 @@
-use Rattle.std.proofs.Common.{◌≡◌, List, ◌∷◌, [], ◌++◌, append_assoc, ap, arith, length, suc, ◌∙◌}
+use Rattle.std.proofs.Common.{◌≡◌, List, ◌∷◌, [], ◌++◌, append_assoc, ap, ◌∙◌}
 use Rattle.rtl_emit.specs.declared.place.Place.{Place}
 use Rattle.rtl_emit.proofs.place.+places_of.Goals as goal
 
@@ -10,8 +10,3 @@ pub returns-clause-begins : goal.returns-clause-begins
 returns-clause-begins t c =
     let b = c.places_of.ensures.begins in
     (c.in_ok-first_place.first_place ∷ b.0, one-more c.args.places.now.items _ _ b.0 _ c.in_ok-put_place.ensures.added b.1)
-
-pub places_of-requires : goal.places_of-requires
-places_of-requires t c =
-    let e : length c.args.es.now ≡ suc (length c.in-Some.rest.now) = ap length c.in-Some.ensures.cases.0 in
-    (omega (arith, e), tt)

@@ -1,5 +1,4 @@
-use Rattle.std.proofs.Common.{map, ap, ◌∙◌}
-use Rattle.std.proofs.lemmas.List.{map_more, take_all}
+use Rattle.std.proofs.lemmas.List.{map_more}
 use Rattle.rtl_emit.specs.declared.place.Place.{Place}
 use Rattle.rtl_emit.proofs.place.registers_of.Goals as goal
 
@@ -7,6 +6,3 @@ pub loop-place-preserved : goal.loop-place-preserved
 loop-place-preserved c =
     rw (map_more (λ (p : Place). p.register) c.args.places.now c.loop-place.place-index (record { register = 0; free = 0 }) c.loop-place-test.true, ← c.loop-place.invariant)
     c.in_ok-push.ensures.items
-
-pub returns : goal.returns
-returns c = c.loop-place.invariant ∙ ap (map (λ (p : Place). p.register)) (take_all c.loop-place.place-index c.args.places.now c.loop-place-test.false)

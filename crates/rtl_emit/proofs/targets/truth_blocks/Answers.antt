@@ -1,5 +1,3 @@
-use Rattle.std.proofs.Common.{ap, arith}
-use Rattle.rtl_emit.specs.Blocks.{insts_of}
 use Rattle.rtl_emit.proofs.Blocks.{within}
 use Rattle.rtl_emit.proofs.Emitted.{truth_code}
 use Rattle.rtl_emit.proofs.Sound.{sound_exit, sound_first}
@@ -9,14 +7,6 @@ pub returns-clause-truth : goal.returns-clause-truth
 returns-clause-truth c = rw c.likely_first.ensures
     (truth_code _ _ _ _ _ _ _ _ _ _ _ _ _ c.exit_block.ensures c.in_ok-no_code.ensures c.exit_block-2.ensures c.in_ok-yes_code.ensures
     c.in_ok-join.ensures.grows c.in_ok-no.ensures.grows c.in_ok-yes.ensures.grows c.in_ok-join.ensures.lands c.in_ok-no.ensures.at c.in_ok-yes.ensures.at)
-
-pub returns-clause-insts : goal.returns-clause-insts
-returns-clause-insts c =
-    let no = ap insts_of c.in_ok-no_code.ensures in
-    let yes = ap insts_of c.in_ok-yes_code.ensures in
-    let no_end = ap insts_of c.exit_block.ensures in
-    let yes_end = ap insts_of c.exit_block-2.ensures in
-    omega (arith, c.in_ok-join.ensures.insts, c.in_ok-no.ensures.insts, c.in_ok-yes.ensures.insts, no, yes, no_end, yes_end)
 
 pub returns-clause-sound : goal.returns-clause-sound
 returns-clause-sound c = rw c.likely_first.ensures (λ s n g h.

@@ -1,5 +1,4 @@
-use Rattle.std.proofs.Common.{◌<◌, ap, arith}
-use Rattle.rtl_emit.specs.Blocks.{insts_of}
+use Rattle.std.proofs.Common.{◌<◌, arith}
 use Rattle.rtl_emit.proofs.Emitted.{combine_from}
 use Rattle.rtl_emit.proofs.Sound.{sound_first, sound_operation}
 use Rattle.rtl_emit.proofs.waiting.combination_at.Goals as goal
@@ -8,9 +7,6 @@ pub returns-clause-does : goal.returns-clause-does
 returns-clause-does c = λ bs from f.
     combine_from bs _ _ _ _ _ _ _ _ _ from _ _ _ c.instruction.ensures c.in_ok-last.ensures c.in_ok-code.ensures c.in_ok-place.ensures.place
     c.in_ok-other.ensures.is f
-
-pub returns-clause-insts : goal.returns-clause-insts
-returns-clause-insts c = omega (arith, ap insts_of c.in_ok-last.ensures, ap insts_of c.in_ok-code.ensures)
 
 pub returns-clause-sound : goal.returns-clause-sound
 returns-clause-sound c = λ s to few after.

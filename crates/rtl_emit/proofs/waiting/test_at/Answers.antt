@@ -17,9 +17,6 @@ returns-in_ok-contrary-clause-does c =
     (h bs from f))
     c.combination_at.ensures.does
 
-pub returns-in_ok-place-clause-insts : goal.returns-in_ok-place-clause-insts
-returns-in_ok-place-clause-insts c = let n = ap insts_of c.exit_block-code.ensures in omega (arith, n)
-
 pub returns-in_ok-contrary-clause-insts : goal.returns-in_ok-contrary-clause-insts
 returns-in_ok-contrary-clause-insts c =
     IfOk-weaker c.combination_at.result _ _
