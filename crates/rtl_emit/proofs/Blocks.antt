@@ -2,7 +2,7 @@
 use Rattle.std.proofs.Common.{◌≡◌, ◌≢◌, ℕ, zero, suc, ◌+◌, ◌<◌, ◌≤◌, List, [], ◌∷◌, ◌++◌, Some, refl, ◌∙◌, ap, arith, length}
 use Rattle.std.specs.Prelude.{slice_get, slice_set}
 use Rattle.std.proofs.Math.ListN.{length-set}
-use Rattle.std.proofs.lemmas.List.{length_push, get_or_push, get_or_append_left, get_or-set_same}
+use Rattle.std.proofs.lemmas.List.{length_push, get_or_push, get_or-set_same}
 use Rattle.std.proofs.lemmas.Option.{slice_get-get_or}
 use Rattle.rtl.specs.Meaning.{Code, code_of}
 use Rattle.rtl_emit.specs.Blocks.{Spot, Block, Line, line_of, insts_of, insts_at, insts_in, Grows, Has, At, Fills}
@@ -24,13 +24,6 @@ has_back bs a b c g h = record { by = λ i le lt. h.by i (omega (arith, g.longer
 
 pub one_longer : (old new : List RBlock) (b : RBlock) → new ≡ old ++ b ∷ [] → length new ≡ length old + 1
 one_longer old new b e = ap length e ∙ length_push old b
-
-pub grows_push : (old new : List RBlock) (b : RBlock) → new ≡ old ++ b ∷ [] → Grows old new
-grows_push old new b e = record {
-  longer = omega (arith, one_longer old new b e);
-  kept = λ i lt. let more : i < length (old ++ b ∷ []) = omega (arith, lt, length_push old b) in
-      rw (e, slice_get-get_or (old ++ b ∷ []) i b more, slice_get-get_or old i b lt) (ap Some (get_or_append_left old (b ∷ []) b i lt));
-}
 
 pub at_seam : (bs old new : List RBlock) (b : RBlock) (c : Code) → new ≡ old ++ b ∷ [] → code_of b ≡ c → Has bs old new → At bs (length old) c
 at_seam bs old new b c e is h = record {

@@ -128,10 +128,7 @@ number_emits old c d free from after fe = record {
   count = omega arith;
   room = omega arith;
   limit = tt;
-  sound = (
-    λ s n g h. (g, sound_first _ fe h.0 (sound_line _ h.1.1)),
-    (let n = ap insts_of fe in let l = line_insts after in omega (arith, n, l)),
-  );
+  sound = ((λ s n g h. (g, sound_first _ fe h.0 (sound_line _ h.1.1))), omega (arith, ap insts_of fe, line_insts after));
   does = λ bs h. gives_from fe (number bs c d free (line_of after));
 }
 
@@ -142,10 +139,7 @@ local_emits old x x' k d free from after ix lt fe = subst (λ x. Emits (value (l
   count = omega arith;
   room = omega (arith, lt);
   limit = tt;
-  sound = (
-    λ s n g h. (g, sound_first _ fe (h.0, omega (arith, h.1.0.0)) (sound_line _ h.1.1)),
-    (let n = ap insts_of fe in let l = line_insts after in omega (arith, n, l)),
-  );
+  sound = ((λ s n g h. (g, sound_first _ fe (h.0, omega (arith, h.1.0.0)) (sound_line _ h.1.1))), omega (arith, ap insts_of fe, line_insts after));
   does = λ bs h. gives_from fe (local_value bs x' k d free (line_of after));
 })
 
@@ -526,10 +520,7 @@ constant_emits old e c word t free from is iw fe =
       count = omega arith;
       room = omega arith;
       limit = tt;
-      sound = (
-        λ s n g h. (g, sound_exit _ fe (either (nat_eq word 0) t.no t.yes s.blocks h.1.1 h.1.0)),
-        (let n = ap insts_of fe in omega (arith, n)),
-      );
+      sound = ((λ s n g h. (g, sound_exit _ fe (either (nat_eq word 0) t.no t.yes s.blocks h.1.1 h.1.0))), omega (arith, ap insts_of fe));
       does = λ bs h. subst (λ f. Decides bs (constant c) free t.yes t.no f) (sym fe)
           (constant_decides bs c _ t.yes t.no free (ap (λ x. if nat_eq x 0 then t.no else t.yes) iw));
     })

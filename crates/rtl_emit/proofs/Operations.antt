@@ -1,15 +1,15 @@
--- Each operator of C by an operator of RTL.
-use Rattle.std.proofs.Common.{◌≡◌, ℕ, Bool, true, false, Some, refl, sym, ◌∙◌, subst}
+-- The contrary of a test of C by an operator of RTL.
+use Rattle.std.proofs.Common.{◌≡◌, Bool, true, false, Some, refl}
 use Rattle.std.specs.Prelude.{not, ◌==◌, if◌then◌else◌}
 use Rattle.c_tree.specs.declared.tree.BinaryOp.{BinaryOp}
 use Rattle.c_tree.specs.declared.tree.BinaryOp.TheVariants as B
 use Rattle.words.specs.declared.sign.Sign.{Sign}
 use Rattle.words.specs.declared.sign.Sign.TheVariants.{Signed, Unsigned}
 use Rattle.words.specs.C.{is_below}
-use Rattle.c_typed.specs.Values.{truth, binary_of}
+use Rattle.c_typed.specs.Values.{truth}
 use Rattle.rtl.specs.declared.operator.Op.{Op}
 use Rattle.rtl.specs.declared.operator.Op.TheVariants as O
-use Rattle.rtl_emit.specs.Operations.{by_sign, result_of, EvaluatesBoth, Computes, ComputesContrary}
+use Rattle.rtl_emit.specs.Operations.{by_sign, ComputesContrary}
 use Rattle.rtl_emit.specs.declared.operation.Operation.{Operation}
 
 abbrev pub straight_op : Op → Operation
@@ -18,23 +18,10 @@ straight_op op = record { op = op; turned = false }
 abbrev pub turned_op : Op → Operation
 turned_op op = record { op = op; turned = true }
 
-pub computes-along : {o o' : BinaryOp} {s : Sign} {op op' : Operation} → o ≡ o' → op ≡ op' → Computes o' s op' → Computes o s op
-computes-along {o} {o'} {s} {op} {op'} io ip c = subst (λ o. Computes o s op) (sym io) (subst (λ op. Computes o' s op) (sym ip) c)
-
--- an operation that gives just what C gives
-pub agrees : {o : BinaryOp} {s : Sign} {op : Operation} → EvaluatesBoth o s → ((x y : ℕ) → binary_of o s x y ≡ result_of op x y) → Computes o s op
-agrees both same = record { both = both; by = λ x y v a b e. sym (same x y) ∙ e }
-
--- one operator for words read as signed numbers, another for words as they are
-pub by_each : {o : BinaryOp} {a b : Op} {turned : Bool} (s : Sign) → Computes o Signed (record { op = a; turned = turned })
-    → Computes o Unsigned (record { op = b; turned = turned }) → Computes o s (record { op = by_sign s a b; turned = turned })
-by_each Signed signed unsigned = signed
-by_each Unsigned signed unsigned = unsigned
-
 -- the contrary of a test
 
 pub contrary-along : {o o' : BinaryOp} {s : Sign} {op op' : Operation} → o ≡ o' → op ≡ op' → ComputesContrary o' s op' → ComputesContrary o s op
-contrary-along {o} {o'} {s} {op} {op'} io ip c = subst (λ o. ComputesContrary o s op) (sym io) (subst (λ op. ComputesContrary o' s op) (sym ip) c)
+contrary-along io ip c = rw (io, ip) c
 
 not_not : (b : Bool) → Some (if b then 1 else 0) ≡ Some (truth (not (not b)))
 not_not true = refl
