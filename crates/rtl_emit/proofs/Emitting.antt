@@ -400,7 +400,8 @@ pub block_emits : (old mid new : List RBlock) (size : Size) (Needs Needs' : Scop
     (x : Result ℕ LowerFault)
     → Emits (record { size = size; Keeps = KeepsCode Needs' 0 size.insts; Does = λ from bs. Is bs (open_code from) }) old mid (Ok code)
     → ((s : Scope) → Covers size s → Needs s → Needs' s)
-    → Grows mid new → OnOk x (length new ≡ length mid + 1) → OnOk x (insts_in new ≡ insts_in mid + insts_of (open_code code)) → IfErr x (λ f. f ≡ Limit → MAX_BLOCKS < length mid + 1)
+    → Grows mid new → OnOk x (length new ≡ length mid + 1) → OnOk x (insts_in new ≡ insts_in mid + insts_of (open_code code))
+    → IfErr x (λ f. f ≡ Limit → MAX_BLOCKS < length mid + 1)
     → IfOk x (λ b. KeepsSound mid new (λ s. IsSound s (open_code code)) (λ s. b < s.blocks))
     → IfOk x (λ b. Over mid new (λ bs. At bs b (open_code code))) → Emits (own_block size Needs Is) old new x
 block_emits old mid new size Needs Needs' Is code (Ok b) e needs g n insts limit sound ats =

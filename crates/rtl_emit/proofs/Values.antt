@@ -23,7 +23,8 @@ use Rattle.rtl.specs.declared.instruction.RExit.TheVariants as X
 use Rattle.rtl_emit.specs.Operations.{inst_of, result_of, Computes, ComputesPrefix, ComputesContrary}
 use Rattle.rtl_emit.specs.Blocks.{first, goto, exit_code, Spot, line_of, Lands, At}
 use Rattle.rtl_emit.specs.Runs.{Goes, Holds, Puts, Yields, Takes, Moves, Arrives}
-use Rattle.rtl_emit.specs.Expressions.{Wanted, word_of, Reads, IsPlace, Gives, Evaluates, Fetches, ArePlaces, FetchAll, at_values, at_constant, Decides, IsTruth}
+use Rattle.rtl_emit.specs.Expressions.{Wanted, word_of, Reads, IsPlace, Gives, Evaluates, Fetches, ArePlaces, FetchAll, at_values}
+use Rattle.rtl_emit.specs.Expressions.{at_constant, Decides, IsTruth}
 use Rattle.rtl_emit.specs.declared.operation.Combination.{Combination}
 use Rattle.rtl_emit.specs.declared.operation.Operation.{Operation}
 use Rattle.rtl_emit.specs.declared.place.Place.{Place}

@@ -52,13 +52,15 @@ unary_into-returns-in_ok-truth-in-Branches t c = λ k.
     let truth = c.in_ok-truth-in-Branches.ensures in
     not_emits _ _ _ _ k _ _ c.args.aim.to c.args.aim.free c.in_ok-truth-in-Branches.truth _ (spot c.args.aim.after) _ c.in-Branches.ensures c.is_logical.ensures
     c.likely_first.ensures
-    (record { grows = truth.grows; count = truth.count; insts = truth.insts; sound = truth.sound; likely = truth.is_likely; truth = truth.truth }) c.condition.ensures
+    (record { grows = truth.grows; count = truth.count; insts = truth.insts; sound = truth.sound; likely = truth.is_likely; truth = truth.truth })
+    c.condition.ensures
 
 pub unary_into-returns-in-Combined : goal.unary_into-returns-in-Combined
 unary_into-returns-in-Combined t c = λ k.
     let value = c.combination_at-value.ensures in
     prefix_emits _ _ _ _ k _ _ c.args.aim.to c.args.aim.free c.open_block.result (spot c.args.aim.after) c.combination_at-value.result _ c.in-Combined.ensures
-    c.is_logical.ensures c.open_block.ensures value.place value.room value.does value.insts value.sound value.limit c.await_operand.ensures.ok c.await_operand.ensures.err
+    c.is_logical.ensures c.open_block.ensures value.place value.room value.does value.insts value.sound value.limit
+    c.await_operand.ensures.ok c.await_operand.ensures.err
 
 pub binary_into-returns-in-Logical : goal.binary_into-returns-in-Logical
 binary_into-returns-in-Logical t c = rw c.in-Logical.ensures.form (c.told_into.ensures _)
@@ -79,7 +81,8 @@ pub told_into-returns : goal.told_into-returns
 told_into-returns t c = λ k.
     let truth = c.in_ok-truth.ensures in
     told_emits c.args.both _ _ _ k _ _ c.in_ok-truth.truth c.args.aim.to c.args.aim.free (spot c.args.aim.after) _
-    (record { grows = truth.grows; count = truth.count; insts = truth.insts; sound = truth.sound; likely = truth.is_likely; truth = truth.truth }) (c.logical_branches.ensures k)
+    (record { grows = truth.grows; count = truth.count; insts = truth.insts; sound = truth.sound; likely = truth.is_likely; truth = truth.truth })
+    (c.logical_branches.ensures k)
 
 pub conditional_into-returns-in_err-join : goal.conditional_into-returns-in_err-join
 conditional_into-returns-in_err-join t c = λ k.
@@ -101,8 +104,8 @@ pub conditional_into-returns : goal.conditional_into-returns
 conditional_into-returns t c = λ k.
     let join = c.in_ok-join.ensures in
     conditional_emits _ _ _ _ _ k _ _ _ _ c.args.aim.to c.args.aim.free c.in_ok-join.join c.in_ok-yes.yes c.in_ok-no.no (spot c.args.aim.after) _
-    c.likely_first.ensures (record { grows = join.grows; count = join.count; insts = join.insts; sound = join.sound; lands = join.lands }) c.in_ok-yes.ensures c.in_ok-no.ensures
-    c.condition.ensures
+    c.likely_first.ensures (record { grows = join.grows; count = join.count; insts = join.insts; sound = join.sound; lands = join.lands })
+    c.in_ok-yes.ensures c.in_ok-no.ensures c.condition.ensures
 
 pub value_block-returns-in_err-code : goal.value_block-returns-in_err-code
 value_block-returns-in_err-code t c =

@@ -12,8 +12,8 @@ returns-in-Greater-clause-computes c = contrary-along c.in-Greater.is (c.straigh
     (not_greater (sign_of c.args.integer_type))
 
 pub returns-in-LessOrEqual-clause-computes : goal.returns-in-LessOrEqual-clause-computes
-returns-in-LessOrEqual-clause-computes c = contrary-along c.in-LessOrEqual.is (c.turned_op-in-LessOrEqual.ensures ∙ ap turned_op c.by_type-in-LessOrEqual.ensures)
-    (not_less_or_equal (sign_of c.args.integer_type))
+returns-in-LessOrEqual-clause-computes c = contrary-along c.in-LessOrEqual.is
+    (c.turned_op-in-LessOrEqual.ensures ∙ ap turned_op c.by_type-in-LessOrEqual.ensures) (not_less_or_equal (sign_of c.args.integer_type))
 
 pub returns-in-GreaterOrEqual-clause-computes : goal.returns-in-GreaterOrEqual-clause-computes
 returns-in-GreaterOrEqual-clause-computes c = contrary-along c.in-GreaterOrEqual.is

@@ -4,5 +4,5 @@ use Rattle.rtl_emit.proofs.place.registers_of.Goals as goal
 
 pub loop-place-preserved : goal.loop-place-preserved
 loop-place-preserved c =
-    rw (map_more (λ (p : Place). p.register) c.args.places.now c.loop-place.place-index (record { register = 0; free = 0 }) c.loop-place-test.true, ← c.loop-place.invariant)
-    c.in_ok-push.ensures.items
+    let one = map_more (λ (p : Place). p.register) c.args.places.now c.loop-place.place-index (record { register = 0; free = 0 }) c.loop-place-test.true in
+    rw (one, ← c.loop-place.invariant) c.in_ok-push.ensures.items
