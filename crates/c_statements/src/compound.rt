@@ -1,6 +1,6 @@
 //! Typed statements from what the typing of their parts answered.
 
-ghost use Rattle.std.specs.Prelude.{◌≡◌, IfOk, IfErr, Err, box_value};
+ghost use Rattle.std.specs.Prelude.{◌≡◌, ◌∷◌, [], IfOk, IfErr, Err, box_value};
 ghost use Rattle.c_statements.specs.Faults.{both_of};
 ghost use Rattle.c_statements.specs.Made.{IsIf, IsLoop, IsSecond, IsSequence, IsStore, MadeOf, Stops};
 
@@ -72,6 +72,17 @@ pub fn loop_of(
     Ok(TypedStatement::Loop(condition, last, body))
 }
 
+/// Returns a list of two parts.
+fn list_of<T: Drop>(alloc: Global, parts: (T, T)) -> Result<Vec<T>, AllocError>
+    ensures { IfOk result (λ all. all.items ≡ parts.0 ∷ parts.1 ∷ []) }
+{
+    let (first, second) = parts;
+    let mut all = Vec::with_capacity(alloc, 2)?;
+    all.push(first)?;
+    all.push(second)?;
+    Ok(all)
+}
+
 /// Returns a block of two statements.
 pub fn sequence(
     alloc: Global,
@@ -81,9 +92,6 @@ pub fn sequence(
     ensures ok { IfOk result (MadeOf (both_of first second) IsSequence) }
     ensures err { IfErr result (Stops (both_of first second)) }
 {
-    let (first, second) = both(first, second)?;
-    let mut all = Vec::with_capacity(alloc, 2)?;
-    all.push(first)?;
-    all.push(second)?;
+    let all = list_of(alloc, both(first, second)?)?;
     Ok(TypedStatement::Block(all))
 }

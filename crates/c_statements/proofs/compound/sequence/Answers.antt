@@ -3,8 +3,4 @@ use Rattle.c_typed.proofs.Shapes.{block-is}
 use Rattle.c_statements.proofs.compound.sequence.Goals as goal
 
 pub returns-clause-ok : goal.returns-clause-ok
-returns-clause-ok c = (
-  _,
-  sym c.both.ensures ∙ c.in_ok-first.was,
-  rw (block-is c.push-2.new.self, c.in_ok-push-2.ensures.items, c.in_ok-push.ensures.items, c.in_ok-all.ensures.items) refl,
-)
+returns-clause-ok c = (_, sym c.both.ensures ∙ c.in_ok-both.was, rw (block-is c.in_ok-all.all, c.in_ok-all.ensures) refl)
