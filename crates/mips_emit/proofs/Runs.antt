@@ -55,9 +55,6 @@ module _ (blocks : List BlockParts) (links : ℕ → ℕ) where
       rw (one, safe.0) (leads_list k is rest (state_after (action_of i) s) t out safe.1 n)
 
 module _ {blocks : List BlockParts} {links : ℕ → ℕ} where
-  pub leads_nowhere : (p : Point) → Leads blocks links 0 p p
-  leads_nowhere p = record { by = λ n. (let e : 0 + n ≡ n = omega arith in ap (λ n. from blocks links n p) e) }
-
   pub leads_then : {d e : ℕ} {p q r : Point} → Leads blocks links d p q → Leads blocks links e q r → Leads blocks links (d + e) p r
   leads_then {d} {e} {p} a b = record {
     by = λ n. (let sums : d + e + n ≡ d + (e + n) = omega arith in ap (λ n. from blocks links n p) sums ∙ a.by (e + n) ∙ b.by n);

@@ -5,7 +5,6 @@ use Rattle.std.specs.Prelude.{All, slice_index}
 use Rattle.std.proofs.lemmas.Bool.{cases_lt}
 use Rattle.std.proofs.lemmas.List.{get_or_past}
 use Rattle.std.proofs.lemmas.List.Elements.{All-get_or}
-use Rattle.words.specs.declared.operator.Operator.TheVariants.{Addu}
 use Rattle.words.specs.declared.width.Width.{Width}
 use Rattle.words.specs.declared.width.Width.TheVariants.{Word, Byte}
 use Rattle.words.specs.Words.{wrap}
@@ -17,7 +16,6 @@ use Rattle.words.proofs.Bounds.{op_words}
 use Rattle.mips_isa.specs.States.{State, IsWords, is_register, read, put, is_open, is_inside, byte_of}
 use Rattle.mips_isa.specs.States.{load_word, load_byte, load_at, store_word, store_byte, store_at}
 use Rattle.mips_isa.specs.Starting.{data_base, stack_base, stack_end, start_state}
-use Rattle.mips_isa.specs.Flows.{Pending, Nothing, Loaded, state_with_pending}
 use Rattle.mips_isa.specs.Actions.{operand, address, state_after, product_high, product_low, quotient_operator, remainder_operator}
 
 either_below : (b : Bool) (x y : ℕ) → x < 2 ^ 32 → y < 2 ^ 32 → cond b x y < 2 ^ 32
@@ -36,11 +34,6 @@ unfolding load_word load_byte
 load_below Word mapped memory a h =
     either_below (is_open Word mapped a) _ 0 (word_of_bytes _ _ _ _ (h a) (h (a + 1)) (h (a + 2)) (h (a + 3))) (omega arith)
 load_below Byte mapped memory a h = let small = h a in either_below (is_open Byte mapped a) (memory a) 0 (omega arith) (omega arith)
-
--- a byte that is loaded
-pub byte_loaded_below : (mapped : ℕ → Bool) (memory : ℕ → ℕ) (a : ℕ) → ((b : ℕ) → memory b < 2 ^ 8) → load_byte mapped memory a < 2 ^ 8
-unfolding load_byte
-byte_loaded_below mapped memory a h = either_byte (is_open Byte mapped a) (memory a) 0 (h a) (omega arith)
 
 pub byte_below : (v k : ℕ) → byte_of v k < 2 ^ 8
 byte_below v (suc (suc zero)) = omega arith
@@ -64,9 +57,6 @@ pub operand_below : (s : State) (x : Operand) → IsWords s → operand s x < 2 
 operand_below s (Held r) h = read_below s.regs h.regs r
 operand_below s (Fixed w) h = omega arith
 
-pub address_below : (s : State) (base offset : ℕ) → IsWords s → address s base offset < 2 ^ 32
-address_below s base offset h = op_words Addu _ _ (read_below s.regs h.regs base) (omega arith)
-
 pub after_words : (a : Action) (s : State) → IsWords s → IsWords (state_after a s)
 after_words (Computes d op x y) s h =
     record { regs = put_below s.regs d _ h.regs (op_words op _ _ (read_below s.regs h.regs x) (operand_below s y h)); hi = h.hi; lo = h.lo; memory = h.memory }
@@ -85,15 +75,6 @@ after_words (Divides sign x y) s h =
     record { regs = h.regs; hi = op_words (remainder_operator sign) _ _ a b; lo = op_words (quotient_operator sign) _ _ a b; memory = h.memory }
 after_words (MovesHigh d) s h = record { regs = put_below s.regs d _ h.regs h.hi; hi = h.hi; lo = h.lo; memory = h.memory }
 after_words (MovesLow d) s h = record { regs = put_below s.regs d _ h.regs h.lo; hi = h.hi; lo = h.lo; memory = h.memory }
-
--- what is pending is a word
-abbrev pub IsWordPending : Pending → Type 0
-IsWordPending Nothing = Unit {0}
-IsWordPending (Loaded r v) = v < 2 ^ 32
-
-pub settle_words : (p : Pending) (s : State) → IsWords s → IsWordPending p → IsWords (state_with_pending p s)
-settle_words Nothing s h w = h
-settle_words (Loaded r v) s h w = record { regs = put_below s.regs r v h.regs w; hi = h.hi; lo = h.lo; memory = h.memory }
 
 -- the state at the start has words in its registers, and bytes in its memory
 pub index_small : (bytes : List ℕ) (k : ℕ) → All (λ b. b < 2 ^ 8) bytes → slice_index bytes k < 2 ^ 8

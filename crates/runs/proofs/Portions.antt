@@ -7,14 +7,6 @@ below_or : (k n : ℕ) → k < n + 1 → (k < n) ⊎ (k ≡ n + 0)
 below_or k n lt = grind arith
 
 module _ {S E : Type 0} (comes_to : S → ℕ → RunOutcome E) (more : E) (asked : ℕ) (old : S) where
-  -- nothing ran yet
-  pub none_of : WentOn comes_to more asked old old (record { end = None; ran = 0 })
-  none_of = record {
-    within = omega arith;
-    before = λ k lt. absurd (omega arith);
-    behind = λ n. let none : 0 + n ≡ n = omega arith in ap (comes_to old) none;
-  }
-
   more_before : (s : S) (ran k : ℕ) → WentOn comes_to more asked old s (record { end = None; ran = ran }) → (comes_to s 0).end ≡ more
       → (k < ran) ⊎ (k ≡ ran + 0) → (comes_to old k).end ≡ more
   more_before s ran k went goes (inl less) = went.before k less

@@ -10,16 +10,15 @@ use Rattle.term_core.specs.declared.Stage.TheVariants.{AtLink, AtContent, Writin
 use Rattle.term_core.specs.declared.Call.{Call}
 use Rattle.term_core.specs.declared.Call.TheVariants.{Intern}
 use Rattle.term_core.specs.declared.Walker.{Walker}
-use Rattle.term_core.specs.World.{Shape, begins, step_start, is_idle, place, becomes, turn, Turn, goes, ends, entry}
+use Rattle.term_core.specs.World.{begins, step_start, is_idle, place, becomes, turn, Turn, goes, ends, entry}
 use Rattle.term_core.specs.World.{follows, turn_without_node, first_stage}
 use Rattle.term_core.specs.Terms.{StartsWith}
 use Rattle.term_core.specs.Law.{Sees}
 use Rattle.term_core.proofs.Replay.{cond_has}
-use Rattle.term_table.specs.declared.view.Size.{Size}
 use Rattle.term_table.specs.declared.view.Walk.{Walk}
 use Rattle.term_table.specs.declared.view.View.{View}
 use Rattle.term_table.specs.declared.view.View.TheVariants.{Walking}
-use Rattle.term_table.specs.Rule.{Moved, MovedFrom, shape_of, chain_of}
+use Rattle.term_table.specs.Rule.{Moved, MovedFrom}
 use Rattle.term_table.specs.Seats.{MayBegin}
 use Rattle.term_table.specs.Calls.{Begun, inside, before, at, walker_of, Ready, IsAt, IsAtLink, Ended, Arrived}
 
@@ -47,12 +46,6 @@ pub goes_on : {S : Type 0} (b : Begun) (walk : Walk) (z : Bool) (me : Me S View)
     → me.0 ≡ Walking (inside b.start (cond walk.written (Linking b.call walk.link) (Writing b.call walk.link 0)) walk.probes) b.told
     → me.1 ≡ [] → me ≡ at b (cond z (Linking b.call walk.link) (Writing b.call walk.link 0)) walk.probes
 goes_on b walk z me is view none = rw (← is) (paired me _ [] view none)
-
--- an intern or a find begins at the link of its chain
-pub at_chain : (b : Begun) (k : Call) (z : Size) (label : ℕ) (kids : List ℕ) (chain : ℕ) → b.call ≡ k
-    → ((s : Shape) → first_stage s k ≡ AtLink k false (s.chain label kids)) → b.shape ≡ shape_of z → chain ≡ chain_of z.heads label kids
-    → first_stage b.shape b.call ≡ AtLink b.call false chain
-at_chain b k z label kids chain call first shape is = rw (call, shape, is) (first (shape_of z))
 
 -- the next step is a load
 pub load_ready : {S : Type 0} (b : Begun) (g : Stage) (p i : ℕ) (me : Me S View) → IsAt b g p me → is_idle g ≡ false
