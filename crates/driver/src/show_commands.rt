@@ -232,10 +232,7 @@ impl FileCommand for ShowCommand<'_> {
         bytes: &[u8],
         out: &mut W,
     ) -> Result<(), Broken<StagesFault>> {
-        let page = match stages(alloc, bytes, &self.asked) {
-            Ok(page) => page,
-            Err(fault) => return Err(Broken::Faulty(fault)),
-        };
+        let page = stages(alloc, bytes, &self.asked).map_err(Broken::Faulty)?;
         print_page(out, page.bytes())?;
         Ok(())
     }
