@@ -1,18 +1,17 @@
 -- The ways through the parser of expressions, each as a step of the grammar.
 use Rattle.std.proofs.Common.{◌≡◌, ◌≢◌, ◌<◌, ◌≤◌, ℕ, suc, zero, List, [], ◌∷◌, length, Option, Some, None, refl, sym, ap, subst, ◌∙◌, arith, ◌⊎◌, inl, inr}
-use Rattle.c_tokens.specs.declared.token.Identifier.{Identifier}
 use Rattle.c_tokens.specs.declared.token.Token.{Token}
-use Rattle.c_tokens.specs.declared.token.Token.TheVariants.{Name, The}
+use Rattle.c_tokens.specs.declared.token.Token.TheVariants.{The}
 use Rattle.c_tokens.specs.declared.token.Mark.{Mark}
-use Rattle.c_tokens.specs.declared.token.Mark.TheVariants.{LeftParen, LeftBracket, Question, Plus, Minus, Star, Slash, Percent, Bang, Tilde, BarBar, AndAnd}
+use Rattle.c_tokens.specs.declared.token.Mark.TheVariants.{LeftParen, Plus, Minus, Star, Slash, Percent, Bang, Tilde, BarBar, AndAnd}
 use Rattle.c_tokens.specs.declared.token.Mark.TheVariants.{Bar, Caret, Ampersand, EqualEqual, BangEqual, LessSign, GreaterSign, LessEqual, GreaterEqual}
 use Rattle.c_tokens.specs.declared.token.Mark.TheVariants.{LessLess, GreaterGreater}
 use Rattle.c_tree.specs.declared.tree.UnaryOp.{UnaryOp}
 use Rattle.c_tree.specs.declared.tree.BinaryOp.{BinaryOp}
-use Rattle.c_front.specs.Grammar.{a_name, the, Level, unary_expressions, above, operands, more_operands, Symbol, T, N, Operator, multiply, Prefix, negate}
-use Rattle.c_front.specs.Grammar.{operands_rule, operands_end, operands_more, operand_name, operand_unary, grouping_of, first, second}
+use Rattle.c_front.specs.Grammar.{the, Level, unary_expressions, above, operands, more_operands, Symbol, T, N, Operator, multiply, Prefix, negate}
+use Rattle.c_front.specs.Grammar.{operands_rule, operands_end, operands_more, operand_unary, grouping_of, first, second}
 use Rattle.c_front.specs.Reading.{read_nothing}
-use Rattle.c_front.specs.Choosing.{Choice, operator_at, more_choice, chosen_rule, EndsOperands, EndsChoice}
+use Rattle.c_front.specs.Choosing.{Choice, operator_at, more_choice, chosen_rule, EndsOperands}
 use Rattle.c_front.specs.declared.cursor.ParseStop.{ParseStop}
 use Rattle.c_tree.specs.Tree.{Expression, binary}
 use Rattle.c_front.specs.Parsing.{level_of, EndsBelow, IsRead, IsStuck, StartsWithOperator, IsNoPrefix}
@@ -24,7 +23,7 @@ abbrev pub GoesOnOperands : Level → List Token → List Token → Expression �
 GoesOnOperands l ts middle left = GoesOn (operands (above l)) (more_operands l) ts middle (grouping_of left)
 
 goes-on-first : {l : Level} {ts middle : List Token} {left : Expression} → IsRead (operands l) ts middle left → GoesOnOperands l ts middle left
-goes-on-first d = goes-first operands_rule refl (λ z. z) d
+goes-on-first d = goes-more goes-first operands_rule refl (λ z. z) d (λ m. refl)
 
 operator-chosen : {l : Level} {o : BinaryOp} {ts after : List Token} (s : StartsWithOperator l o ts after) →
     chosen_rule (more_operands l) (first ts) (second ts) ≡ Some (T (the s.0) ∷ N (operands l) ∷ N (more_operands l) ∷ [], operands_more s.1)
@@ -106,7 +105,7 @@ climbs-more level k ts middle after next left right o g s h d e i = record {
   current = k;
   within = h;
   tighter = e;
-  goes = goes-more (at-operator level k o ts middle after left g s) (operands_more s.1) (operator-chosen s) (λ z. z) (followed (mark s.2) d);
+  goes = goes-more (at-operator level k o ts middle after left g s) (operands_more s.1) (operator-chosen s) (λ z. z) (followed (mark s.2) d) (λ m. refl);
   shorter = i;
 }
 
@@ -139,15 +138,6 @@ pub climbs-more-stuck : (level k : ℕ) (ts middle after : List Token) (left : E
 climbs-more-stuck level k ts middle after left o s g op h q =
     lifted level (suc k) ts s (omega (arith, h)) ((at-operator level k o ts middle after left g op).stuck s
     (inside (operands_more op.1) (operator-chosen op) (λ z. z) (past (mark op.2) (within _ q))))
-
-pub no-choice : (next : Option Token) → next ≢ Some (The Question) → EndsChoice next
-no-choice (Some (The Question)) h = absurd (h refl)
-no-choice _ h = refl
-
-pub no-index : (x : Identifier) (next : Option Token) → next ≢ Some (The LeftBracket)
-    → chosen_rule (operands unary_expressions) (Some (Name x)) next ≡ Some (T a_name ∷ [], operand_name)
-no-index x (Some (The LeftBracket)) h = absurd (h refl)
-no-index x _ h = refl
 
 pub chosen-prefix : {o : UnaryOp} {t : Mark} (r : Prefix o t) (after : Option Token)
     → chosen_rule (operands unary_expressions) (Some (The t)) after ≡ Some (T (the t) ∷ N (operands unary_expressions) ∷ [], operand_unary r)

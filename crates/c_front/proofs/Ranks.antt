@@ -1,5 +1,5 @@
 -- How tightly the token after some operands would bind them.
-use Rattle.std.proofs.Common.{◌≡◌, ◌≢◌, ◌≤◌, ℕ, suc, [], ◌∷◌, Option, Some, None, refl, ap, arith}
+use Rattle.std.proofs.Common.{◌≡◌, ◌≢◌, ℕ, suc, [], ◌∷◌, Option, Some, None, refl, ap}
 use Rattle.c_tokens.specs.declared.token.Token.{Token}
 use Rattle.c_tokens.specs.declared.token.Token.TheVariants.{The}
 use Rattle.c_tokens.specs.declared.token.Mark.{Mark}
@@ -9,7 +9,7 @@ use Rattle.c_tokens.specs.declared.token.Mark.TheVariants.{GreaterGreater}
 use Rattle.c_tree.specs.declared.tree.BinaryOp.{BinaryOp}
 use Rattle.c_front.specs.Grammar.{the, Level, unary_expressions, above, operands, more_operands, T, N, Operator, multiply}
 use Rattle.c_front.specs.Grammar.{operands_end, operands_more}
-use Rattle.c_front.specs.Choosing.{operator_at, more_choice, one_choice, EndsOperands, EndsChoice}
+use Rattle.c_front.specs.Choosing.{operator_at, more_choice, one_choice, EndsOperands}
 
 -- an index or an argument binds tightest, then each level of operators, then a condition, then all that ends an expression
 abbrev pub rank_of : Option Token → ℕ
@@ -61,7 +61,3 @@ no-more l t h (Some r) = absurd (h (operator-rank r.1))
 pub ends-operands : (l : Level) (next : Option Token) → rank_of next ≢ rank l → EndsOperands l next
 ends-operands l (Some (The t)) h = no-more l t h (operator_at l t)
 ends-operands l _ h = refl
-
-pub ends-choice : (next : Option Token) → 12 ≤ rank_of next → EndsChoice next
-ends-choice (Some (The Question)) h = absurd (omega (arith, h))
-ends-choice _ h = refl

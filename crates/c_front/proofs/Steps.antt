@@ -13,18 +13,8 @@ use Rattle.c_tokens.specs.declared.token.Literal.{Literal}
 use Rattle.c_front.specs.declared.cursor.ParseStop.{ParseStop}
 use Rattle.c_front.specs.declared.cursor.ParseStop.TheVariants.{Syntax, NoMemory}
 use Rattle.c_front.specs.Parsing.{StartsWith, IsRead, AreStuck, are_stuck, without_memory, IsStuck, IsMissing, IsNameMissing, IsConstantMissing}
-use Rattle.c_front.proofs.Reading.{stuck_after, stuck-within}
-
--- the trees of some symbols, and of those after them
-abbrev pub trees : (symbols more : List Symbol) → PhraseTrees symbols → PhraseTrees more → PhraseTrees (symbols ++ more)
-trees [] more m w = w
-trees (s ∷ symbols) more m w = (m.0, trees symbols more m.1 w)
-
-pub followed : {symbols more : List Symbol} {ts middle rest : List Token} {m : PhraseTrees symbols} {w : PhraseTrees more} → Reads symbols ts middle m
-    → Reads more middle rest w → Reads (symbols ++ more) ts rest (trees symbols more m w)
-followed read_nothing q = q
-followed (read_token i d) q = read_token i (followed d q)
-followed (read_phrase r c d e d') q = read_phrase r c d e (followed d' q)
+use Rattle.c_front.proofs.Reading.{stuck_after, stuck-within, trees}
+pub use Rattle.c_front.proofs.Reading.{followed}
 
 -- what stands in front, by its parts
 pub at-first : {ts rest : List Token} {t u : Token} → ts ≡ t ∷ rest → t ≡ u → ts ≡ u ∷ rest
@@ -142,26 +132,14 @@ pub record GoesOn (n more : Nonterminal) (ts middle : List Token) (tree : Phrase
   pub reads : (rest : List Token) (m : PhraseTree more) → IsRead more middle rest m → IsRead n ts rest (tree m)
   pub stuck : (s : ParseStop) → IsStuck more middle s → IsStuck n ts s
 
-pub goes-first : {n more : Nonterminal} {symbols : List Symbol} {ts middle : List Token} {v : PhraseTrees symbols} (r : Rule n (symbols ++ N more ∷ []))
-    → chosen_rule n (first ts) (second ts) ≡ Some (symbols ++ N more ∷ [], r) → (Peeks n (first ts) → ⊥) → Reads symbols ts middle v
-    → GoesOn n more ts middle (λ m. tree_of r (trees symbols (N more ∷ []) v (m, tt)))
-goes-first r c k d = record {
-  reads = λ rest m q. whole r c (followed d q);
-  stuck = λ s h. inside r c k (past d h);
-}
+pub goes-first : {n : Nonterminal} {ts : List Token} → GoesOn n n ts ts (λ m. m)
+goes-first = record { reads = λ rest m q. q; stuck = λ s h. h }
 
-pub goes-more : {n more : Nonterminal} {symbols : List Symbol} {ts middle next : List Token} {v : PhraseTrees symbols}
-    {tree : PhraseTree more → PhraseTree n} → GoesOn n more ts middle tree → (r : Rule more (symbols ++ N more ∷ []))
-    → chosen_rule more (first middle) (second middle) ≡ Some (symbols ++ N more ∷ [], r) → (Peeks more (first middle) → ⊥)
-    → Reads symbols middle next v → GoesOn n more ts next (λ m. tree (tree_of r (trees symbols (N more ∷ []) v (m, tt))))
-goes-more g r c k d = record {
-  reads = λ rest m q. g.reads rest _ (whole r c (followed d q));
+pub goes-more : {n more next : Nonterminal} {symbols : List Symbol} {ts middle after : List Token} {v : PhraseTrees symbols}
+    {tree : PhraseTree more → PhraseTree n} {to : PhraseTree next → PhraseTree n} → GoesOn n more ts middle tree → (r : Rule more (symbols ++ N next ∷ []))
+    → chosen_rule more (first middle) (second middle) ≡ Some (symbols ++ N next ∷ [], r) → (Peeks more (first middle) → ⊥) → Reads symbols middle after v
+    → ((m : PhraseTree next) → to m ≡ tree (tree_of r (trees symbols (N next ∷ []) v (m, tt)))) → GoesOn n next ts after to
+goes-more g r c k d same = record {
+  reads = λ rest m q. rw (same m) (g.reads rest _ (whole r c (followed d q)));
   stuck = λ s h. g.stuck s (inside r c k (past d h));
-}
-
-pub goes-same : {n more : Nonterminal} {ts middle : List Token} {f g : PhraseTree more → PhraseTree n} → ((m : PhraseTree more) → f m ≡ g m)
-    → GoesOn n more ts middle f → GoesOn n more ts middle g
-goes-same {n = n} {ts = ts} e go = record {
-  reads = λ rest m q. (let P : PhraseTree n → Type 0 = λ x. IsRead n ts rest x in subst P (e m) (go.reads rest m q));
-  stuck = go.stuck;
 }

@@ -3,12 +3,11 @@ use Rattle.c_tokens.specs.declared.token.Token.{Token}
 use Rattle.c_tokens.specs.declared.token.Token.TheVariants.{The}
 use Rattle.c_tokens.specs.declared.token.Mark.TheVariants.{Unsigned}
 use Rattle.c_front.specs.Parsing.{StartsNoBytes}
-use Rattle.c_front.proofs.Choices.{no-char}
 use Rattle.c_front.proofs.cursor.starts_bytes.Goals as goal
 
 pub returns-in_err-after-clause-none : goal.returns-in_err-after-clause-none
 returns-in_err-after-clause-none c =
-    let h : StartsNoBytes c.args.tokens.now = no-char _ _ c.in_ok-rest.ensures.some c.in_err-after.ensures.none in search rules
+    let h : StartsNoBytes c.args.tokens.now = rw c.in_ok-rest.ensures.some (λ e. c.in_err-after.ensures.none) in search rules
 
 pub returns-clause-some : goal.returns-clause-some
 returns-clause-some c = c.in_ok-rest.ensures.some ∙ ap (λ (x : List Token). The Unsigned ∷ x) c.in_ok-after.ensures.some

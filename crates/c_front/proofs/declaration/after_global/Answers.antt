@@ -1,10 +1,10 @@
 use Rattle.std.proofs.Common.{refl}
 use Rattle.std.proofs.lemmas.Result.{IfOk-at_ok, IfOk-weaker, IfErr-weaker}
-use Rattle.c_front.specs.Grammar.{is_the, global_plain, global_initial, global_function, global_array}
+use Rattle.c_front.specs.Grammar.{after_global, is_the, global_plain, global_initial, global_function, global_array}
 use Rattle.c_front.specs.Reading.{read_nothing}
 use Rattle.c_front.proofs.Ends.{failed, unended}
 use Rattle.c_front.proofs.Steps.{followed, mark, whole, taken, inside, begun}
-use Rattle.c_front.proofs.Choices.{chosen-function}
+use Rattle.c_front.proofs.Choices.{otherwise}
 use Rattle.c_front.proofs.declaration.after_global.Goals as goal
 
 pub returns-in-Some-clause-ok : goal.returns-in-Some-clause-ok
@@ -29,10 +29,10 @@ returns-in-Some-starts-2-clause-ok c = IfOk-weaker c.array.result _ _
 
 pub returns-clause-ok : goal.returns-clause-ok
 returns-clause-ok c =
-    let chosen = chosen-function _ c.in_default.ensures.none c.in_default-starts.ensures.none c.in_default-starts-2.ensures.none in
+    let chosen = otherwise after_global _ (c.in_default.ensures.none, c.in_default-starts.ensures.none, c.in_default-starts-2.ensures.none) in
     IfOk-weaker c.function.result _ _ (λ r f. (_, whole global_function chosen f.2, f.3)) c.function.ensures.ok
 
 pub returns-clause-err : goal.returns-clause-err
 returns-clause-err c =
-    let chosen = chosen-function _ c.in_default.ensures.none c.in_default-starts.ensures.none c.in_default-starts-2.ensures.none in
+    let chosen = otherwise after_global _ (c.in_default.ensures.none, c.in_default-starts.ensures.none, c.in_default-starts-2.ensures.none) in
     IfErr-weaker c.function.result _ _ (λ s h. inside global_function chosen (λ z. z) h) c.function.ensures.err

@@ -1,10 +1,10 @@
 use Rattle.std.proofs.Common.{refl, inl, inr}
 use Rattle.std.proofs.lemmas.Result.{IfOk-at_ok, IfErr-at_err, IfOk-weaker, IfErr-weaker}
-use Rattle.c_front.specs.Grammar.{is_the, is_name, declaration_typed, declaration_void, declaration_bytes}
+use Rattle.c_front.specs.Grammar.{a_type, is_the, is_name, declaration_typed, declaration_void, declaration_bytes}
 use Rattle.c_front.proofs.Ends.{failed}
-use Rattle.c_front.proofs.Reading.{type-takes}
+use Rattle.c_front.proofs.Reading.{takes}
 use Rattle.c_front.proofs.Steps.{followed, one, mark, whole, taken, past, inside, inside-past, begun, no-phrase, name-missing, missing}
-use Rattle.c_front.proofs.Choices.{no-type, chosen-typed, no-unsigned}
+use Rattle.c_front.proofs.Choices.{chosen-typed, no-unsigned, otherwise}
 use Rattle.c_front.proofs.declaration.declaration.Goals as goal
 
 pub returns-in_err-name-clause-err : goal.returns-in_err-name-clause-err
@@ -41,13 +41,13 @@ returns-in-Some-starts_bytes-clause-err c =
 pub returns-in_default-integer_type-clause-err : goal.returns-in_default-integer_type-clause-err
 returns-in_default-integer_type-clause-err c =
     let k = c.in_default-integer_type.ensures.none in
-    inside declaration_typed (chosen-typed _ _ c.in_default.ensures.none (λ e. absurd (k.1 e))) (no-unsigned _ k.1) (no-phrase refl (λ after. no-type _ k.0 k.1))
+    inside declaration_typed (chosen-typed _ _ c.in_default.ensures.none (λ e. absurd (k.1 e))) (no-unsigned _ k.1) (no-phrase refl (λ after. otherwise a_type _ k))
 
 pub returns-in_err-name-3-clause-err : goal.returns-in_err-name-3-clause-err
 returns-in_err-name-3-clause-err c =
     let d = c.in-Some-integer_type.ensures.some in
     failed _ c.from_residual-in_err-name-3.ensures.1
-    (inside-past declaration_typed (chosen-typed _ _ c.in_default.ensures.none c.in_default-starts_bytes.ensures.none) d (type-takes d)
+    (inside-past declaration_typed (chosen-typed _ _ c.in_default.ensures.none c.in_default-starts_bytes.ensures.none) d (takes tt d)
     (name-missing c.in_err-name-3.ensures.err))
 
 pub returns-clause-ok : goal.returns-clause-ok
@@ -61,4 +61,4 @@ returns-clause-err c =
     let d = c.in-Some-integer_type.ensures.some in
     let chosen = chosen-typed _ _ c.in_default.ensures.none c.in_default-starts_bytes.ensures.none in
     IfErr-weaker c.after_global.result _ _
-    (λ s h. inside-past declaration_typed chosen d (type-takes d) (past (one is_name c.in_ok-name-3.ensures.ok) h)) c.after_global.ensures.err
+    (λ s h. inside-past declaration_typed chosen d (takes tt d) (past (one is_name c.in_ok-name-3.ensures.ok) h)) c.after_global.ensures.err

@@ -5,7 +5,7 @@ use Rattle.c_front.specs.Reading.{read_nothing}
 use Rattle.c_tree.specs.Shape.{declarations_of}
 use Rattle.c_front.proofs.Ends.{failed, stops}
 use Rattle.c_front.proofs.Reading.{derived}
-use Rattle.c_front.proofs.Steps.{by-first, whole, within, inside, goes-more, goes-same}
+use Rattle.c_front.proofs.Steps.{by-first, whole, within, inside, goes-more}
 use Rattle.c_front.proofs.Choices.{declarations_of-append}
 use Rattle.c_front.proofs.declaration.declarations.Goals as goal
 
@@ -20,8 +20,8 @@ declarations-preserved c =
     let d : length c.declarations.rest.now ≤ length c.args.tokens.now = c.declarations.invariant.shorter in
     let e : length c.in_ok-rest.rest.now < length c.declarations.rest.now = IfOk-at_ok _ r.1 c.declaration.ensures.shorter in
     rw (r.2, declarations_of-append c.declarations.all.items r.0) (record {
-      goes = goes-same (λ m. sym (append_assoc (declarations_of c.declarations.all.items) _ m)) (goes-more c.declarations.invariant.goes declarations_more
-          (by-first declarations c.in-Some.ensures.some) (λ z. z) (IfOk-at_ok _ r.1 c.declaration.ensures.ok));
+      goes = goes-more c.declarations.invariant.goes declarations_more (by-first declarations c.in-Some.ensures.some) (λ z. z)
+          (IfOk-at_ok _ r.1 c.declaration.ensures.ok) (append_assoc (declarations_of c.declarations.all.items) _);
       shorter = omega (arith, d, e);
     })
 

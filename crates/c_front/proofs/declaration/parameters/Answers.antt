@@ -1,24 +1,25 @@
 use Rattle.std.proofs.Common.{arith, ◌<◌, length, refl, sym, append_assoc, append-nil}
 use Rattle.std.proofs.lemmas.Result.{IfOk-at_ok}
-use Rattle.c_front.specs.Grammar.{more_parameters, is_the, parameters_void, parameters_some, more_parameters_end, more_parameters_more}
+use Rattle.c_front.specs.Grammar.{parameters, more_parameters, is_the, parameters_void, parameters_some, more_parameters_end, more_parameters_more}
 use Rattle.c_front.specs.Reading.{read_nothing}
 use Rattle.c_front.proofs.Ends.{failed, stops}
-use Rattle.c_front.proofs.Steps.{shorter, followed, mark, by-first, whole, taken, within, inside, begun, goes-first, goes-more, goes-same}
-use Rattle.c_front.proofs.Choices.{some-parameters, no-more-parameters}
+use Rattle.c_front.proofs.Steps.{shorter, followed, mark, by-first, whole, taken, within, inside, begun, goes-first, goes-more}
+use Rattle.c_front.proofs.Choices.{otherwise}
 use Rattle.c_front.proofs.declaration.parameters.Goals as goal
 
 pub returns-in-Some-clause-ok : goal.returns-in-Some-clause-ok
 returns-in-Some-clause-ok c = rw c.new-all.ensures.items (taken parameters_void is_the c.in-Some.ensures.some refl read_nothing)
 
 pub returns-in_err-rest-clause-err : goal.returns-in_err-rest-clause-err
-returns-in_err-rest-clause-err c = failed _ c.from_residual.ensures.1 (inside parameters_some (some-parameters _ c.in_default.ensures.none) (λ z. z)
+returns-in_err-rest-clause-err c = failed _ c.from_residual.ensures.1 (inside parameters_some (otherwise parameters _ c.in_default.ensures.none) (λ z. z)
     (within _ (stops _ _ _ _ c.in_err-rest.ensures.err c.parameter.ensures.err)))
 
 pub more-init : goal.more-init
 more-init c =
     let r = c.in_ok-rest.ensures.ok in
     rw (r.2, c.new-all.ensures.items) (record {
-      goes = goes-first parameters_some (some-parameters _ c.in_default.ensures.none) (λ z. z) (IfOk-at_ok _ r.1 c.parameter.ensures.ok);
+      goes = goes-more goes-first parameters_some (otherwise parameters _ c.in_default.ensures.none) (λ z. z)
+          (IfOk-at_ok _ r.1 c.parameter.ensures.ok) (λ m. refl);
       shorter = IfOk-at_ok _ r.1 c.parameter.ensures.shorter;
     })
 
@@ -33,12 +34,11 @@ more-preserved c =
     let d : length c.more.rest.now < length c.args.tokens.now = c.more.invariant.shorter in
     let f : length c.in_ok-rest-2.rest.now < length c.in-Some-starts.after.now = IfOk-at_ok _ r.1 c.parameter-in-Some-starts.ensures.shorter in
     rw r.2 (record {
-      goes = goes-same (λ m. sym (append_assoc c.more.all.items _ m))
-          (goes-more c.more.invariant.goes more_parameters_more (by-first more_parameters c.in-Some-starts.ensures.some) (λ z. z)
-          (followed (mark c.in-Some-starts.ensures.some) (IfOk-at_ok _ r.1 c.parameter-in-Some-starts.ensures.ok)));
+      goes = goes-more c.more.invariant.goes more_parameters_more (by-first more_parameters c.in-Some-starts.ensures.some) (λ z. z)
+          (followed (mark c.in-Some-starts.ensures.some) (IfOk-at_ok _ r.1 c.parameter-in-Some-starts.ensures.ok)) (append_assoc c.more.all.items _);
       shorter = omega (arith, shorter c.in-Some-starts.ensures.some, d, f);
     })
 
 pub returns-clause-ok : goal.returns-clause-ok
 returns-clause-ok c = rw (sym (append-nil c.more.all.items))
-    (c.more.invariant.goes.reads _ _ (whole more_parameters_end (no-more-parameters _ c.in_default-starts.ensures.none) read_nothing))
+    (c.more.invariant.goes.reads _ _ (whole more_parameters_end (otherwise more_parameters _ c.in_default-starts.ensures.none) read_nothing))

@@ -1,13 +1,14 @@
 use Rattle.std.proofs.Common.{arith, ◌≡◌, ◌<◌, suc, length, ap, refl}
 use Rattle.c_tokens.specs.declared.token.Token.TheVariants.{Name}
-use Rattle.c_front.specs.Grammar.{operands, unary_expressions, expression_rule, choice_none, choice_some, operand_constant, operand_name, operand_index}
+use Rattle.c_front.specs.Grammar.{choice, operands, unary_expressions, expression_rule, choice_none, choice_some, operand_constant, operand_name, operand_index}
 use Rattle.c_front.specs.Grammar.{operand_unary, operand_paren, is_name, is_constant, is_the}
 use Rattle.c_front.specs.Reading.{read_nothing}
 use Rattle.c_front.specs.Parsing.{level_of, without_memory}
 use Rattle.std.proofs.lemmas.Result.{IfOk-at_ok, IfOk-weaker, IfErr-weaker}
 use Rattle.c_front.proofs.Ends.{failed, stops, ended-shorter, unended}
 use Rattle.c_front.proofs.Steps.{at-first, at-mark, shorter, followed, mark, whole, taken, by-second, past, within, inside, begun, no-phrase}
-use Rattle.c_front.proofs.Paths.{climbs-first, climbs-more, climbs-end, further-out, lifted, climbs-more-stuck, no-choice, no-index, chosen-prefix, no-operand}
+use Rattle.c_front.proofs.Paths.{climbs-first, climbs-more, climbs-end, further-out, lifted, climbs-more-stuck, chosen-prefix, no-operand}
+use Rattle.c_front.proofs.Choices.{no-index, otherwise}
 use Rattle.c_front.proofs.expression.+expressions.Goals as goal
 
 pub expression-returns-in_err-condition-clause-err : goal.expression-returns-in_err-condition-clause-err
@@ -27,7 +28,7 @@ expression-returns-in_ok-parts-in-Some-clause-ok t c = rw c.in_ok-parts-in-Some.
 
 pub expression-returns-in-None-clause-ok : goal.expression-returns-in-None-clause-ok
 expression-returns-in-None-clause-ok t c = whole expression_rule refl
-    (followed c.in_ok-condition.ensures.ok (whole choice_none (no-choice _ c.in-None.ensures.none) read_nothing))
+    (followed c.in_ok-condition.ensures.ok (whole choice_none (otherwise choice _ c.in-None.ensures.none) read_nothing))
 
 pub choice-returns-in_err-first-clause-err : goal.choice-returns-in_err-first-clause-err
 choice-returns-in_err-first-clause-err t c = failed _ c.from_residual.ensures.1 (within _ c.in_err-first.ensures.err)

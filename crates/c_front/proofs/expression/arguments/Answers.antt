@@ -3,8 +3,8 @@ use Rattle.std.proofs.lemmas.Result.{IfOk-at_ok, IfOk-weaker, IfErr-weaker}
 use Rattle.c_front.proofs.Ends.{failed, stops, plain-ended, plain-unended}
 use Rattle.c_tokens.specs.declared.token.Mark.TheVariants.{RightParen}
 use Rattle.c_tree.specs.Shape.{expressions_of}
-use Rattle.c_front.proofs.Choices.{expressions_of-append, some-chosen, none-more}
-use Rattle.c_front.proofs.Steps.{shorter, followed, mark, missing, by-first, whole, past, within, inside, begun, goes-first, goes-more, goes-same}
+use Rattle.c_front.proofs.Choices.{expressions_of-append, otherwise}
+use Rattle.c_front.proofs.Steps.{shorter, followed, mark, missing, by-first, whole, past, within, inside, begun, goes-first, goes-more}
 use Rattle.c_front.specs.Grammar.{arguments, more_arguments, arguments_none, arguments_some, more_arguments_end, more_arguments_more, is_the}
 use Rattle.c_front.specs.Reading.{read_nothing}
 use Rattle.c_front.proofs.expression.arguments.Goals as goal
@@ -14,14 +14,15 @@ returns-in-Some-clause-ok c = rw c.new-all.ensures.items
     (followed (whole arguments_none (by-first arguments c.in-Some.ensures.some) read_nothing) (mark c.in-Some.ensures.some))
 
 pub returns-in_err-rest-clause-err : goal.returns-in_err-rest-clause-err
-returns-in_err-rest-clause-err c = failed _ c.from_residual.ensures.1 (within _ (inside arguments_some (some-chosen _ c.in_default.ensures.none) (λ z. z)
+returns-in_err-rest-clause-err c = failed _ c.from_residual.ensures.1 (within _ (inside arguments_some (otherwise arguments _ c.in_default.ensures.none) (λ z. z)
     (within _ (stops _ _ _ _ c.in_err-rest.ensures.err c.expression.ensures.err))))
 
 pub more-init : goal.more-init
 more-init c =
     let r = c.in_ok-rest.ensures.ok in
     rw (r.2, c.new-all.ensures.items) (record {
-      goes = goes-first arguments_some (some-chosen _ c.in_default.ensures.none) (λ z. z) (IfOk-at_ok _ r.1 c.expression.ensures.ok);
+      goes = goes-more goes-first arguments_some (otherwise arguments _ c.in_default.ensures.none) (λ z. z)
+          (IfOk-at_ok _ r.1 c.expression.ensures.ok) (λ m. refl);
       shorter = IfOk-at_ok _ r.1 c.expression.ensures.shorter;
     })
 
@@ -36,21 +37,21 @@ more-preserved c =
     let d : length c.more.rest.now < length c.args.tokens.now = c.more.invariant.shorter in
     let f : length c.in_ok-rest-2.rest.now < length c.in-Some-starts.after.now = IfOk-at_ok _ r.1 c.expression-in-Some-starts.ensures.shorter in
     rw (r.2, expressions_of-append c.more.all.items r.0) (record {
-      goes = goes-same (λ m. sym (append_assoc (expressions_of c.more.all.items) _ m))
-          (goes-more c.more.invariant.goes more_arguments_more (by-first more_arguments c.in-Some-starts.ensures.some) (λ z. z)
-          (followed (mark c.in-Some-starts.ensures.some) (IfOk-at_ok _ r.1 c.expression-in-Some-starts.ensures.ok)));
+      goes = goes-more c.more.invariant.goes more_arguments_more (by-first more_arguments c.in-Some-starts.ensures.some) (λ z. z)
+          (followed (mark c.in-Some-starts.ensures.some) (IfOk-at_ok _ r.1 c.expression-in-Some-starts.ensures.ok))
+          (append_assoc (expressions_of c.more.all.items) _);
       shorter = omega (arith, shorter c.in-Some-starts.ensures.some, d, f);
     })
 
 pub returns-clause-err : goal.returns-clause-err
 returns-clause-err c = IfErr-weaker c.expect_after.result _ _
-    (λ s d. past (c.more.invariant.goes.reads _ _ (whole more_arguments_end (none-more _ c.in_default-starts.ensures.none) read_nothing))
+    (λ s d. past (c.more.invariant.goes.reads _ _ (whole more_arguments_end (otherwise more_arguments _ c.in_default-starts.ensures.none) read_nothing))
     (missing (plain-unended RightParen s d))) c.expect_after.ensures.err
 
 pub returns-clause-ok : goal.returns-clause-ok
 returns-clause-ok c = IfOk-weaker c.expect_after.result _ _
     (λ r d. let h = plain-ended RightParen r d in rw (h.0, sym (append-nil (expressions_of c.more.all.items)))
-    (followed (c.more.invariant.goes.reads _ _ (whole more_arguments_end (none-more _ c.in_default-starts.ensures.none) read_nothing)) (mark h.1)))
+    (followed (c.more.invariant.goes.reads _ _ (whole more_arguments_end (otherwise more_arguments _ c.in_default-starts.ensures.none) read_nothing)) (mark h.1)))
     c.expect_after.ensures.ok
 
 pub returns-clause-shorter : goal.returns-clause-shorter

@@ -1,17 +1,13 @@
 use Rattle.std.proofs.Common.{arith, ◌<◌, ◌≤◌, length, refl, sym}
-use Rattle.c_front.specs.Grammar.{is_the, is_name, items_end, items_more, item_declare, item_statement, statement_empty, statement_block, statement_if}
+use Rattle.c_front.specs.Grammar.{an_item, else_part, is_the, is_name, items_end, items_more, item_declare, item_statement, statement_empty, statement_block, statement_if}
 use Rattle.c_front.specs.Grammar.{statement_while, statement_for, statement_simple, else_none, else_some}
 use Rattle.c_tree.specs.Shape.{items_of}
 use Rattle.std.proofs.lemmas.Result.{IfOk-at_ok, IfOk-weaker, IfErr-weaker}
 use Rattle.c_front.proofs.Ends.{failed, stops, unended}
 use Rattle.c_front.proofs.Steps.{at-first, at-mark, shorter, followed, one, mark, whole, taken, past, within, inside, begun, no-phrase, name-missing, goes-more}
-use Rattle.c_front.proofs.Steps.{goes-same}
 use Rattle.c_tree.proofs.Shapes.{block-is}
-use Rattle.c_front.proofs.Choices.{items_of-append, no-mark, chosen-item, after-none, after-after}
-use Rattle.c_front.proofs.Reading.{derived}
-use Rattle.c_front.proofs.Deriving.{type-starts}
+use Rattle.c_front.proofs.Choices.{items_of-append, no-mark, after-none, after-after, otherwise, type-item}
 use Rattle.c_front.specs.Reading.{read_nothing}
-use Rattle.c_front.proofs.Completing.{else-none}
 use Rattle.c_front.specs.Parsing.{without_memory}
 use Rattle.c_front.proofs.statement.+statements.Goals as goal
 
@@ -104,7 +100,7 @@ if_then-returns-in-None-clause-ok t c = (
   _,
   _,
   followed c.in_ok-test.ensures.ok (followed (IfOk-at_ok _ c.in_ok-first.ensures.ok c.statement.ensures.ok)
-      (whole else_none (else-none _ c.in-None.ensures.none) read_nothing)),
+      (whole else_none (otherwise else_part _ c.in-None.ensures.none) read_nothing)),
   refl,
 )
 
@@ -144,27 +140,27 @@ for_loop-returns-clause-shorter t c =
 
 pub item-returns-in_err-name-in-Some-clause-err : goal.item-returns-in_err-name-in-Some-clause-err
 item-returns-in_err-name-in-Some-clause-err t c = failed _ c.from_residual.ensures.1
-    (inside item_declare (type-starts (derived c.in-Some.ensures.some)).item (λ z. z) (past c.in-Some.ensures.some (name-missing c.in_err-name-in-Some.ensures.err)))
+    (inside item_declare (type-item c.in-Some.ensures.some) (λ z. z) (past c.in-Some.ensures.some (name-missing c.in_err-name-in-Some.ensures.err)))
 
 pub item-returns-in_err-given-in-Some-clause-err : goal.item-returns-in_err-given-in-Some-clause-err
 item-returns-in_err-given-in-Some-clause-err t c = failed _ c.from_residual-in_err-given-in-Some.ensures.1
-    (inside item_declare (type-starts (derived c.in-Some.ensures.some)).item (λ z. z) (past c.in-Some.ensures.some
+    (inside item_declare (type-item c.in-Some.ensures.some) (λ z. z) (past c.in-Some.ensures.some
     (past (one is_name c.in_ok-name-in-Some.ensures.ok)
     (unended _ _ _ _ _ _ c.in_err-given-in-Some.ensures.err c.first_value.ensures.ok c.first_value.ensures.err))))
 
 pub item-returns-in_ok-given-in-Some-clause-ok : goal.item-returns-in_ok-given-in-Some-clause-ok
 item-returns-in_ok-given-in-Some-clause-ok t c =
     let d = c.in_ok-given-in-Some.ensures.ok in
-    whole item_declare (type-starts (derived c.in-Some.ensures.some)).item (followed c.in-Some.ensures.some
+    whole item_declare (type-item c.in-Some.ensures.some) (followed c.in-Some.ensures.some
     (followed (one is_name c.in_ok-name-in-Some.ensures.ok) (followed (IfOk-at_ok _ d.1 c.first_value.ensures.ok) (mark d.2))))
 
 pub item-returns-in_err-inner-in-None-clause-err : goal.item-returns-in_err-inner-in-None-clause-err
 item-returns-in_err-inner-in-None-clause-err t c = let h = c.in-None.ensures.none in
-    failed _ c.from_residual-in_err-inner-in-None.ensures.1 (inside item_statement (chosen-item _ h.0 h.1) (λ z. z) c.in_err-inner-in-None.ensures.err)
+    failed _ c.from_residual-in_err-inner-in-None.ensures.1 (inside item_statement (otherwise an_item _ h) (λ z. z) c.in_err-inner-in-None.ensures.err)
 
 pub item-returns-in_ok-inner-in-None-clause-ok : goal.item-returns-in_ok-inner-in-None-clause-ok
 item-returns-in_ok-inner-in-None-clause-ok t c = let h = c.in-None.ensures.none in
-    whole item_statement (chosen-item _ h.0 h.1) c.in_ok-inner-in-None.ensures.ok
+    whole item_statement (otherwise an_item _ h) c.in_ok-inner-in-None.ensures.ok
 
 pub items-returns-clause-ok : goal.items-returns-clause-ok
 items-returns-clause-ok t c = rw (sym (after-none (items_of c.items.all.items)))
@@ -184,8 +180,8 @@ items-items-preserved t c =
     let d : length c.items.rest.now ≤ length c.args.tokens.now = c.items.invariant.shorter in
     let e : length c.in_ok-rest.rest.now < length c.items.rest.now = IfOk-at_ok _ r.1 c.item.ensures.shorter in
     rw (r.2, items_of-append c.items.all.items r.0) (record {
-      goes = goes-same (λ m. sym (after-after (items_of c.items.all.items) _ m))
-          (goes-more c.items.invariant.goes items_more (c.ends_items.ensures.more c.items-test.true) (λ z. z) (IfOk-at_ok _ r.1 c.item.ensures.ok));
+      goes = goes-more c.items.invariant.goes items_more (c.ends_items.ensures.more c.items-test.true) (λ z. z)
+          (IfOk-at_ok _ r.1 c.item.ensures.ok) (after-after (items_of c.items.all.items) _);
       shorter = omega (arith, d, e);
     })
 
