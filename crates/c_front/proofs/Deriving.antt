@@ -1,5 +1,5 @@
 -- A derivation is the one in which the next token chooses each rule.
-use Rattle.std.proofs.Common.{◌≤◌, suc, arith, lit≤, ◌≡◌, List, [], ◌∷◌, Option, Some, refl, ap}
+use Rattle.std.proofs.Common.{rules, ◌≤◌, suc, arith, lit≤, ◌≡◌, List, [], ◌∷◌, Option, Some, refl, ap}
 use Rattle.c_tokens.specs.declared.token.Identifier.{Identifier}
 use Rattle.c_tokens.specs.declared.token.Token.{Token}
 use Rattle.c_tokens.specs.declared.token.Token.TheVariants.{Name, The}
@@ -7,11 +7,11 @@ use Rattle.c_tokens.specs.declared.token.Mark.{Mark}
 use Rattle.c_front.specs.Grammar.{a_name, the, maybe_int, a_program, Level, ors, Nonterminal, declarations, a_type, parameters}
 use Rattle.c_front.specs.Grammar.{more_parameters, items, an_item, declared, a_statement, maybe_simple, maybe_expression, simple, value, arguments}
 use Rattle.c_front.specs.Grammar.{more_arguments, an_expression, choice, operands, more_operands, Symbol, T, N, PhraseTrees, negate, Rule, program_rule}
-use Rattle.c_front.specs.Grammar.{declarations_end, declarations_more, declaration_typed, declaration_void, type_int, type_unsigned, int_none, int_some}
-use Rattle.c_front.specs.Grammar.{global_initial, global_function, function_rule, parameters_some, more_parameters_end, more_parameters_more}
-use Rattle.c_front.specs.Grammar.{declaration_bytes, items_end, items_more, item_declare, item_statement, declared_none, declared_some, statement_block}
-use Rattle.c_front.specs.Grammar.{statement_if, statement_while, statement_for, statement_return, statement_simple, else_none, else_some, simple_none}
-use Rattle.c_front.specs.Grammar.{simple_some, expression_none, expression_some, simple_assign, simple_assign_at, simple_call, value_plain, value_call}
+use Rattle.c_front.specs.Grammar.{declarations_end, declaration_typed, declaration_void, type_int, type_unsigned, int_none, int_some}
+use Rattle.c_front.specs.Grammar.{function_rule, more_parameters_end}
+use Rattle.c_front.specs.Grammar.{declaration_bytes, items_end, items_more, item_declare, item_statement, declared_none}
+use Rattle.c_front.specs.Grammar.{statement_simple, else_none, simple_none}
+use Rattle.c_front.specs.Grammar.{simple_some, expression_none, expression_some, simple_assign, simple_assign_at, simple_call, value_plain}
 use Rattle.c_front.specs.Grammar.{call_rule, arguments_none, arguments_some, more_arguments_end, more_arguments_more, expression_rule, choice_none, choice_some}
 use Rattle.c_front.specs.Grammar.{operands_rule, operands_end, operands_more, operand_constant, operand_name, operand_index, operand_unary, operand_paren}
 use Rattle.c_front.specs.Grammar.{first, second, MayPrecede, else_part, is_name, is_constant, is_jump, is_the, Derives, nothing, token, phrase, identity, complement, not}
@@ -76,46 +76,11 @@ AreClosed [] outer = Unit {0}
 AreClosed (T s ∷ symbols) outer = AreClosed symbols outer
 AreClosed (N n ∷ symbols) outer = ClosedBy n symbols outer × AreClosed symbols outer
 
+ruleset closing = (by_next, by_mark, by_name, by_choice, by_operands, by_arguments, by_anything)
+
 parts-closed : {n : Nonterminal} {inner : List Symbol} → Rule n inner → AreClosed inner n
 parts-closed program_rule = (by_next (λ x h. h), tt)
-parts-closed declarations_more = (by_anything (λ x. tt), (by_next (λ x h. h), tt))
-parts-closed declaration_typed = (by_name (λ x. refl), (by_next (λ x h. tt), tt))
-parts-closed declaration_void = (by_next (λ x h. tt), tt)
-parts-closed type_unsigned = (by_next (λ x h. h), tt)
-parts-closed global_initial = (by_mark tt, tt)
-parts-closed global_function = (by_next (λ x h. tt), tt)
-parts-closed function_rule = (by_mark refl, (by_mark refl, tt))
-parts-closed parameters_some = (by_name (λ x. refl), (by_next (λ x h. h), tt))
-parts-closed more_parameters_more = (by_name (λ x. refl), (by_next (λ x h. h), tt))
-parts-closed items_more = (by_anything (λ x. tt), (by_next (λ x h. h), tt))
-parts-closed item_declare = (by_name (λ x. refl), (by_mark (refl, lit≤ tt), tt))
-parts-closed item_statement = (by_next (λ x h. tt), tt)
-parts-closed declared_some = (by_next (λ x h. h.1), tt)
-parts-closed statement_block = (by_mark refl, tt)
-parts-closed statement_if = (by_mark (lit≤ tt), (by_anything (λ x. tt), (by_next (λ x h. tt), tt)))
-parts-closed statement_while = (by_mark (lit≤ tt), (by_next (λ x h. tt), tt))
-parts-closed statement_for = (by_mark (refl, lit≤ tt), (by_mark (refl, lit≤ tt), (by_mark (refl, lit≤ tt), (by_next (λ x h. tt), tt))))
-parts-closed statement_return = (by_mark (refl, lit≤ tt), tt)
-parts-closed statement_simple = (by_mark (lit≤ tt), tt)
-parts-closed else_some = (by_next (λ x h. tt), tt)
-parts-closed simple_some = (by_next (λ x h. h.1), tt)
-parts-closed expression_some = (by_next (λ x h. h.1), tt)
-parts-closed simple_assign = (by_next (λ x h. h), tt)
-parts-closed simple_assign_at = (by_mark (lit≤ tt), (by_next (λ x h. h), tt))
-parts-closed simple_call = (by_next (λ x h. tt), tt)
-parts-closed value_plain = (by_next (λ x h. h), tt)
-parts-closed value_call = (by_next (λ x h. tt), tt)
-parts-closed call_rule = (by_mark (refl, refl, lit≤ tt), tt)
-parts-closed arguments_some = (by_arguments (λ x h. (h.1, h.2)), (by_next (λ x h. (h.1, h.2)), tt))
-parts-closed more_arguments_more = (by_arguments (λ x h. h), (by_next (λ x h. h), tt))
-parts-closed expression_rule = (by_choice, (by_next (λ x h. h), tt))
-parts-closed choice_some = (by_mark (lit≤ tt), (by_next (λ x h. h), tt))
-parts-closed operands_rule = (by_operands (λ x h. h), (by_next (λ x h. h), tt))
-parts-closed (operands_more r) = (by_operands (λ x h. h), (by_next (λ x h. h), tt))
-parts-closed operand_index = (by_mark (lit≤ tt), tt)
-parts-closed (operand_unary p) = (by_next (λ x h. h), tt)
-parts-closed operand_paren = (by_mark (lit≤ tt), tt)
-parts-closed _ = tt
+parts-closed _ = search (rules, closing)
 
 -- operands don't begin with a closing parenthesis, and no call begins with them
 pub record OperandsStart (ts : List Token) : Type 0 where
