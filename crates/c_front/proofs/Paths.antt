@@ -1,5 +1,5 @@
 -- The ways through the parser of expressions, each as a step of the grammar.
-use Rattle.std.proofs.Common.{◌≡◌, ◌≢◌, ◌<◌, ◌≤◌, ℕ, suc, zero, List, [], ◌∷◌, length, Option, Some, None, refl, sym, ap, subst, ◌∙◌, arith, ◌⊎◌, inl, inr}
+use Rattle.std.proofs.Common.{◌≡◌, ◌≢◌, ◌<◌, ◌≤◌, ℕ, suc, zero, List, [], ◌∷◌, length, Option, Some, None, refl, sym, ap, ◌∙◌, arith, ◌⊎◌, inl, inr}
 use Rattle.c_tokens.specs.declared.token.Token.{Token}
 use Rattle.c_tokens.specs.declared.token.Token.TheVariants.{The}
 use Rattle.c_tokens.specs.declared.token.Mark.{Mark}
@@ -8,14 +8,15 @@ use Rattle.c_tokens.specs.declared.token.Mark.TheVariants.{Bar, Caret, Ampersand
 use Rattle.c_tokens.specs.declared.token.Mark.TheVariants.{LessLess, GreaterGreater}
 use Rattle.c_tree.specs.declared.tree.UnaryOp.{UnaryOp}
 use Rattle.c_tree.specs.declared.tree.BinaryOp.{BinaryOp}
-use Rattle.c_front.specs.Grammar.{the, Level, unary_expressions, above, operands, more_operands, Symbol, T, N, Operator, multiply, Prefix, negate}
+use Rattle.c_front.specs.Grammar.{the, Level, unary_expressions, above, operands, more_operands, T, N, Operator, multiply, Prefix, negate}
 use Rattle.c_front.specs.Grammar.{operands_rule, operands_end, operands_more, operand_unary, grouping_of, first, second}
 use Rattle.c_front.specs.Reading.{read_nothing}
-use Rattle.c_front.specs.Choosing.{Choice, operator_at, more_choice, chosen_rule, EndsOperands}
+use Rattle.c_front.specs.Choosing.{operator_at, more_choice, chosen_rule, EndsOperands}
 use Rattle.c_front.specs.declared.cursor.ParseStop.{ParseStop}
 use Rattle.c_tree.specs.Tree.{Expression, binary}
 use Rattle.c_front.specs.Parsing.{level_of, EndsBelow, IsRead, IsStuck, StartsWithOperator, IsNoPrefix}
 use Rattle.c_front.proofs.Steps.{followed, mark, whole, by-first, past, within, inside, GoesOn, goes-first, goes-more}
+use Rattle.c_front.proofs.Reading.{same-symbols}
 use Rattle.c_front.proofs.Ranks.{chosen-operator, rank, operator-rank, ends-operands}
 
 -- a place within the operands of a level: `left` was read
@@ -39,12 +40,9 @@ split-at c k h = grind (arith, h)
 -- the levels between end where they are, so what was read is an operand of a level further out
 rise : (k : ℕ) (c : ℕ) (ts middle : List Token) (left : Expression) → GoesOnOperands (level_of c) ts middle left → c ≤ k → EndsBelow k (first middle)
     → GoesOnOperands (level_of k) ts middle left
-rise zero c ts middle left g h e =
-    let q : c ≡ 0 = omega (arith, h) in
-    let P : ℕ → Type 0 = λ x. GoesOnOperands (level_of x) ts middle left in
-    subst P q g
+rise zero c ts middle left g h e = let q : c ≡ 0 = omega (arith, h) in rw q at g
 rise (suc k) c ts middle left g h e = elim (split-at c k h) [
-  | inl q ↦ (let P : ℕ → Type 0 = λ x. GoesOnOperands (level_of x) ts middle left in subst P q g)
+  | inl q ↦ rw q at g
   | inr q ↦ goes-on-first (operands-end (rise k c ts middle left g q (λ j i. e j (omega (arith, i)))) (e k (omega arith)))
 ]
 
@@ -74,28 +72,16 @@ rank-level (suc k) = ap suc (rank-level k)
 other-ends : (j k : ℕ) (o : BinaryOp) (middle after : List Token) → StartsWithOperator (level_of k) o middle after → j ≢ k
     → EndsOperands (level_of j) (first middle)
 other-ends j k o middle after s h =
-    let P : List Token → Type 0 = λ x. EndsOperands (level_of j) (first x) in
-    let a = operator-rank s.1 in
-    let b = rank-level j in
-    let d = rank-level k in
-    subst P (sym s.2) (ends-operands (level_of j) (Some (The s.0)) (λ e. h (omega (arith, a, b, d, e))))
+    rw s.2 (ends-operands (level_of j) (Some (The s.0)) (λ e. h (omega (arith, operator-rank s.1, rank-level j, rank-level k, e))))
 
 not-ended : {l : Level} {o : BinaryOp} {t : Mark} → Operator l o t → EndsOperands l (Some (The t)) → ⊥
-not-ended {l = l} r e =
-    let q = sym (chosen-operator r) ∙ e in
-    let bad : _ ∷ _ ≡ [] = ap symbols-of q in
-    cc
-  where
-    symbols-of : Option (Choice (more_operands l)) → List Symbol
-    symbols-of None = []
-    symbols-of (Some z) = z.0
+not-ended r e = let bad : _ ∷ _ ≡ [] = same-symbols (sym (chosen-operator r) ∙ e) in cc
 
 -- the operator that stands there isn't of a level that has ended, so what was read is its left operand
 at-operator : (level k : ℕ) (o : BinaryOp) (ts middle after : List Token) (left : Expression) → Climbs level ts middle left
     → StartsWithOperator (level_of k) o middle after → GoesOnOperands (level_of k) ts middle left
 at-operator level k o ts middle after left g s =
-    let P : List Token → Type 0 = λ x. EndsOperands (level_of k) (first x) in
-    let no : (k < g.current) → ⊥ = λ h. not-ended s.1 (subst P s.2 (g.tighter k h)) in
+    let no : (k < g.current) → ⊥ = λ h. not-ended s.1 (rw s.2 at g.tighter k h) in
     rise k g.current ts middle left g.goes (omega (arith, no)) (λ j i. other-ends j k o middle after s (λ e. omega (arith, i, e)))
 
 pub climbs-more : (level k : ℕ) (ts middle after next : List Token) (left right : Expression) (o : BinaryOp) → Climbs level ts middle left
@@ -123,12 +109,9 @@ further-out level k o middle after s h = λ j i. other-ends j k o middle after s
 
 -- what gets stuck in operands of a level gets stuck in those of one further out
 pub lifted : (k j : ℕ) (ts : List Token) (s : ParseStop) → j ≤ k → IsStuck (operands (level_of j)) ts s → IsStuck (operands (level_of k)) ts s
-lifted zero j ts s h q =
-    let e : j ≡ 0 = omega (arith, h) in
-    let P : ℕ → Type 0 = λ x. IsStuck (operands (level_of x)) ts s in
-    subst P e q
+lifted zero j ts s h q = let e : j ≡ 0 = omega (arith, h) in rw e at q
 lifted (suc k) j ts s h q = elim (split-at j k h) [
-  | inl e ↦ (let P : ℕ → Type 0 = λ x. IsStuck (operands (level_of x)) ts s in subst P e q)
+  | inl e ↦ rw e at q
   | inr i ↦ inside operands_rule refl (λ z. z) (within _ (lifted k j ts s i q))
 ]
 

@@ -1,5 +1,5 @@
 -- What a sequence of symbols reads, and where it gets stuck, from its first symbols and the others.
-use Rattle.std.proofs.Common.{◌≡◌, ◌<◌, suc, List, [], ◌∷◌, ◌++◌, Option, Some, None, length, refl, sym, ap, ◌∙◌, subst, append_assoc, arith}
+use Rattle.std.proofs.Common.{◌≡◌, ◌<◌, suc, List, [], ◌∷◌, ◌++◌, Option, Some, None, length, refl, sym, ap, ◌∙◌, append_assoc, arith}
 use Rattle.std.specs.Borrow.{Bor}
 use Rattle.c_tokens.specs.declared.token.Identifier.{Identifier}
 use Rattle.c_tokens.specs.declared.token.Token.{Token}
@@ -7,7 +7,7 @@ use Rattle.c_tokens.specs.declared.token.Token.TheVariants.{Name, Constant, The}
 use Rattle.c_tokens.specs.declared.token.Mark.{Mark}
 use Rattle.c_front.specs.Grammar.{Sort, a_name, a_constant, the, Nonterminal, Symbol, T, N, PhraseTree, SortTree, PhraseTrees, Rule, first, second, IsToken}
 use Rattle.c_front.specs.Grammar.{tree_of, is_the, is_name, is_constant}
-use Rattle.c_front.specs.Reading.{Reads, read_nothing, read_token, read_phrase, Stuck, stuck_token, stuck_phrase, stuck_inside}
+use Rattle.c_front.specs.Reading.{Reads, read_nothing, read_token, read_phrase, stuck_token, stuck_phrase, stuck_inside}
 use Rattle.c_front.specs.Choosing.{chosen_rule, Peeks}
 use Rattle.c_tokens.specs.declared.token.Literal.{Literal}
 use Rattle.c_front.specs.declared.cursor.ParseStop.{ParseStop}
@@ -28,9 +28,7 @@ shorter some = ap length some
 
 -- one token
 pub one : {k : Sort} {t : Token} {v : SortTree k} {ts rest : List Token} → IsToken k t v → ts ≡ t ∷ rest → Reads (T k ∷ []) ts rest (v, tt)
-one {k = k} {v = v} {rest = rest} is e =
-    let P : List Token → Type 0 = λ x. Reads (T k ∷ []) x rest (v, tt) in
-    subst P (sym e) (read_token is read_nothing)
+one is e = rw e (read_token is read_nothing)
 
 pub mark : {u : Mark} {ts rest : List Token} → StartsWith u ts rest → Reads (T (the u) ∷ []) ts rest (tt, tt)
 mark e = one is_the e
@@ -98,13 +96,11 @@ begun {n = n} r is e c h = let l = ap length e in inside-past r (by-first n e �
 -- no rule begins with what stands there
 pub no-phrase : {n : Nonterminal} {more : List Symbol} {ref : Bor (List Token)} {ts : List Token} → ref.now ≡ ts
     → ((after : Option Token) → chosen_rule n (first ts) after ≡ None) → AreStuck (N n ∷ more) ref.now (Syntax ref)
-no-phrase {n = n} e h = are_stuck (λ symbols. stuck_phrase (λ after. ap (λ (x : List Token). chosen_rule n (first x) after) e ∙ h after))
+no-phrase e h = are_stuck (λ symbols. stuck_phrase (λ after. rw e (h after)))
 
 missing-sort : {k : Sort} {more : List Symbol} {ts : List Token} {rest : Bor (List Token)} → rest.now ≡ ts
     → ((t : Token) (v : SortTree k) → first ts ≡ Some t → IsToken k t v → ⊥) → AreStuck (T k ∷ more) ts (Syntax rest)
-missing-sort {k = k} {more = more} {ts = ts} e none = are_stuck (λ symbols.
-    let P : List Token → Type 0 = λ x. Stuck (T k ∷ more ++ symbols) ts x in
-    subst P (sym e) (stuck_token none))
+missing-sort e none = are_stuck (λ symbols. rw e (stuck_token none))
 
 the-is : {u : Mark} {t : Token} {v : SortTree (the u)} → IsToken (the u) t v → t ≡ The u
 the-is is_the = refl
