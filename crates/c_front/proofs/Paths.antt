@@ -11,13 +11,13 @@ use Rattle.c_tree.specs.declared.tree.BinaryOp.{BinaryOp}
 use Rattle.c_front.specs.Grammar.{the, Level, unary_expressions, above, operands, more_operands, T, N, Operator, multiply, Prefix, negate}
 use Rattle.c_front.specs.Grammar.{operands_rule, operands_end, operands_more, operand_unary, grouping_of, first, second}
 use Rattle.c_front.specs.Reading.{read_nothing}
-use Rattle.c_front.specs.Choosing.{operator_at, more_choice, chosen_rule, EndsOperands}
+use Rattle.c_front.specs.Choosing.{chosen_rule, EndsOperands}
 use Rattle.c_front.specs.declared.cursor.ParseStop.{ParseStop}
 use Rattle.c_tree.specs.Tree.{Expression, binary}
 use Rattle.c_front.specs.Parsing.{level_of, EndsBelow, IsRead, IsStuck, StartsWithOperator, IsNoPrefix}
-use Rattle.c_front.proofs.Steps.{followed, mark, whole, by-first, past, within, inside, GoesOn, goes-first, goes-more}
+use Rattle.c_front.proofs.Steps.{followed, mark, whole, past, within, inside, GoesOn, goes-first, goes-more}
 use Rattle.c_front.proofs.Reading.{same-symbols}
-use Rattle.c_front.proofs.Ranks.{chosen-operator, rank, operator-rank, ends-operands}
+use Rattle.c_front.proofs.Ranks.{none-operating, chosen-operator, rank, operator-rank, ends-operands}
 
 -- a place within the operands of a level: `left` was read
 abbrev pub GoesOnOperands : Level → List Token → List Token → Expression → Type 0
@@ -28,7 +28,7 @@ goes-on-first d = goes-more goes-first operands_rule refl (λ z. z) d (λ m. ref
 
 operator-chosen : {l : Level} {o : BinaryOp} {ts after : List Token} (s : StartsWithOperator l o ts after) →
     chosen_rule (more_operands l) (first ts) (second ts) ≡ Some (T (the s.0) ∷ N (operands l) ∷ N (more_operands l) ∷ [], operands_more s.1)
-operator-chosen {l = l} s = by-first (more_operands l) s.2 ∙ chosen-operator s.1
+operator-chosen s = rw s.2 (chosen-operator s.1)
 
 operands-end : {l : Level} {ts middle : List Token} {left : Expression} → GoesOnOperands l ts middle left → EndsOperands l (first middle)
     → IsRead (operands (above l)) ts middle left
@@ -141,12 +141,7 @@ none-operates : {l : Level} {w : BinaryOp} {t : Mark} → Operator l w t → t �
 none-operates multiply a b c d e f g h i j k m n o p q r s = a refl
 none-operates _ a b c d e f g h i j k m n o p q r s = grind arith
 
-no-operator-at : (l : Level) (t : Mark) → ((w : BinaryOp) → Operator l w t → ⊥) → (x : Option ((w : BinaryOp) × Operator l w t))
-    → Some (more_choice l t x) ≡ Some ([], operands_end)
-no-operator-at l t h None = refl
-no-operator-at l t h (Some x) = absurd (h x.0 x.1)
-
 pub no-operator : (t : Mark) → t ≢ Star → t ≢ Slash → t ≢ Percent → t ≢ Plus → t ≢ Minus → t ≢ LessLess → t ≢ GreaterGreater → t ≢ LessSign → t ≢ GreaterSign
     → t ≢ LessEqual → t ≢ GreaterEqual →
     t ≢ EqualEqual → t ≢ BangEqual → t ≢ Ampersand → t ≢ Caret → t ≢ Bar → t ≢ AndAnd → t ≢ BarBar → (l : Level) → EndsOperands l (Some (The t))
-no-operator t a b c d e f g h i j k m n o p q r s l = no-operator-at l t (λ w x. none-operates x a b c d e f g h i j k m n o p q r s) (operator_at l t)
+no-operator t a b c d e f g h i j k m n o p q r s l = none-operating l t (λ w x. none-operates x a b c d e f g h i j k m n o p q r s)

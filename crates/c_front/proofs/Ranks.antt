@@ -52,12 +52,10 @@ pub chosen-operator : {l : Level} {o : BinaryOp} {t : Mark} (r : Operator l o t)
     one_choice (more_operands l) (Some (The t)) ≡ Some (T (the t) ∷ N (operands l) ∷ N (more_operands l) ∷ [], operands_more r)
 chosen-operator {l = l} {t = t} r = ap (λ (x : Option ((o : BinaryOp) × Operator l o t)). Some (more_choice l t x)) (operator-found r)
 
-no-more : (l : Level) (t : Mark) → rank_of (Some (The t)) ≢ rank l → (x : Option ((o : BinaryOp) × Operator l o t))
-    → Some (more_choice l t x) ≡ Some ([], operands_end)
-no-more l t h None = refl
-no-more l t h (Some r) = absurd (h (operator-rank r.1))
+pub none-operating : (l : Level) (t : Mark) → ((o : BinaryOp) → Operator l o t → ⊥) → EndsOperands l (Some (The t))
+none-operating l t h = elim (operator_at l t) as (λ x. Some (more_choice l t x) ≡ Some ([], operands_end)) [ None ↦ refl | Some r ↦ absurd (h r.0 r.1) ]
 
 -- a token of another rank ends the operands of a level
 pub ends-operands : (l : Level) (next : Option Token) → rank_of next ≢ rank l → EndsOperands l next
-ends-operands l (Some (The t)) h = no-more l t h (operator_at l t)
+ends-operands l (Some (The t)) h = none-operating l t (λ o r. h (operator-rank r))
 ends-operands l _ h = refl

@@ -1,13 +1,12 @@
 -- Derivations in which each rule is the one that the next token chooses, and where they get stuck.
-use Rattle.std.proofs.Common.{◌<◌, ◌≤◌, arith, length, ◌≡◌, ◌≢◌, ℕ, List, [], ◌∷◌, ◌++◌, Option, Some, None, refl, sym, ap, subst, ◌∙◌}
-use Rattle.c_tokens.specs.declared.token.JumpWord.{JumpWord}
+use Rattle.std.proofs.Common.{◌<◌, ◌≤◌, arith, length, ◌≡◌, ◌≢◌, List, [], ◌∷◌, ◌++◌, Option, Some, None, refl, sym, ap, subst, ◌∙◌}
 use Rattle.c_tokens.specs.declared.token.Token.{Token}
-use Rattle.c_tokens.specs.declared.token.Token.TheVariants.{Name, Jump, The}
+use Rattle.c_tokens.specs.declared.token.Token.TheVariants.{Name, Jump, The, Constant}
 use Rattle.c_tokens.specs.declared.token.Mark.TheVariants.{Unsigned, Else, Minus}
 use Rattle.c_front.specs.Grammar.{Sort, a_name, a_constant, a_jump, the, unary_expressions, Nonterminal, a_declaration, a_type, a_statement, else_part}
 use Rattle.c_front.specs.Grammar.{simple, value, a_call, an_expression, operands, Symbol, T, N, SortTree, PhraseTrees, Rule, declaration_typed}
 use Rattle.c_front.specs.Grammar.{else_none, simple_call, value_plain, value_call, expression_rule, operands_rule}
-use Rattle.c_front.specs.Grammar.{tree_of, first, second, MayPrecede, IsToken, is_name, is_constant, is_jump, Derives, nothing, token, phrase}
+use Rattle.c_front.specs.Grammar.{tree_of, first, second, MayPrecede, IsToken, is_name, Derives, nothing, token, phrase}
 use Rattle.c_front.specs.Reading.{Reads, read_nothing, read_token, read_phrase, Stuck, stuck_extra, stuck_token, stuck_past, stuck_phrase, stuck_inside}
 use Rattle.c_front.specs.Choosing.{Choice, one_choice, chosen_rule, Peeks}
 
@@ -77,18 +76,19 @@ stuck_after {ts = ts} {rest = rest} (read_phrase {middle = middle} r c d e d') s
     let a : length rest ≤ length middle = stuck-within (stuck_after d' s) in
     stuck_inside r c (λ h. let b : length middle < length ts = peeked r h d in omega arith) (stuck_after d (stuck_after d' s))
 
-abbrev place-of : Token → ℕ
-place-of (Jump w at) = at
-place-of _ = 0
+abbrev token-of : (s : Sort) → SortTree s → Token
+token-of a_name x = Name x
+token-of a_constant k = Constant k
+token-of (a_jump w) at = Jump w at
+token-of (the t) _ = The t
 
-jump-at : (w : JumpWord) {t : Token} {v : ℕ} → IsToken (a_jump w) t v → v ≡ place-of t
-jump-at w is_jump = refl
+pub token-is : {s : Sort} {t : Token} {v : SortTree s} → IsToken s t v → t ≡ token-of s v
+token-is is_name = refl
+token-is _ = refl
 
 same_token : (s : Sort) {t : Token} {v w : SortTree s} → IsToken s t v → IsToken s t w → v ≡ w
-same_token a_name is_name is_name = refl
-same_token a_constant is_constant is_constant = refl
-same_token (a_jump w) i j = jump-at w i ∙ sym (jump-at w j)
 same_token (the u) i j = refl
+same_token _ i j = let a = token-is i in let b = token-is j in cc
 
 -- what was read of a phrase was read by the rule that is chosen
 inverted : {n : Nonterminal} {inner symbols : List Symbol} {ts rest : List Token} {z : PhraseTrees (N n ∷ symbols)} (r : Rule n inner)

@@ -1,19 +1,17 @@
 -- What a sequence of symbols reads, and where it gets stuck, from its first symbols and the others.
-use Rattle.std.proofs.Common.{◌≡◌, ◌<◌, suc, List, [], ◌∷◌, ◌++◌, Option, Some, None, length, refl, sym, ap, ◌∙◌, append_assoc, arith}
+use Rattle.std.proofs.Common.{◌≡◌, ◌<◌, suc, List, [], ◌∷◌, ◌++◌, Option, Some, None, length, refl, ap, ◌∙◌, append_assoc, arith}
 use Rattle.std.specs.Borrow.{Bor}
-use Rattle.c_tokens.specs.declared.token.Identifier.{Identifier}
 use Rattle.c_tokens.specs.declared.token.Token.{Token}
-use Rattle.c_tokens.specs.declared.token.Token.TheVariants.{Name, Constant, The}
+use Rattle.c_tokens.specs.declared.token.Token.TheVariants.{The}
 use Rattle.c_tokens.specs.declared.token.Mark.{Mark}
 use Rattle.c_front.specs.Grammar.{Sort, a_name, a_constant, the, Nonterminal, Symbol, T, N, PhraseTree, SortTree, PhraseTrees, Rule, first, second, IsToken}
-use Rattle.c_front.specs.Grammar.{tree_of, is_the, is_name, is_constant}
+use Rattle.c_front.specs.Grammar.{tree_of, is_the}
 use Rattle.c_front.specs.Reading.{Reads, read_nothing, read_token, read_phrase, stuck_token, stuck_phrase, stuck_inside}
 use Rattle.c_front.specs.Choosing.{chosen_rule, Peeks}
-use Rattle.c_tokens.specs.declared.token.Literal.{Literal}
 use Rattle.c_front.specs.declared.cursor.ParseStop.{ParseStop}
 use Rattle.c_front.specs.declared.cursor.ParseStop.TheVariants.{Syntax, NoMemory}
 use Rattle.c_front.specs.Parsing.{StartsWith, IsRead, AreStuck, are_stuck, without_memory, IsStuck, IsMissing, IsNameMissing, IsConstantMissing}
-use Rattle.c_front.proofs.Reading.{stuck_after, stuck-within, trees}
+use Rattle.c_front.proofs.Reading.{stuck_after, stuck-within, trees, token-is}
 pub use Rattle.c_front.proofs.Reading.{followed}
 
 -- what stands in front, by its parts
@@ -43,20 +41,11 @@ pub wrapped : {n inner : Nonterminal} {more : List Symbol} {ts rest : List Token
     → Reads (N n ∷ more) ts rest (tree_of r (v, tt), w)
 wrapped r c (read_phrase r' c' d e z) = read_phrase r c (read_phrase r' c' d e read_nothing) refl z
 
--- a phrase whose rule a token chooses
-pub by-first : (n : Nonterminal) {ts rest : List Token} {t : Token} → ts ≡ t ∷ rest
-    → chosen_rule n (first ts) (second ts) ≡ chosen_rule n (Some t) (first rest)
-by-first n e = ap (λ (x : List Token). chosen_rule n (first x) (second x)) e
-
-pub by-second : (n : Nonterminal) (t : Token) {u : Token} {rest after : List Token} → rest ≡ u ∷ after
-    → chosen_rule n (Some t) (first rest) ≡ chosen_rule n (Some t) (Some u)
-by-second n t e = ap (λ (x : List Token). chosen_rule n (Some t) (first x)) e
-
 -- a phrase whose rule begins with a token, which chooses it
 pub taken : {n : Nonterminal} {k : Sort} {more : List Symbol} {t : Token} {v : SortTree k} {ts a rest : List Token} {m : PhraseTrees more}
     (r : Rule n (T k ∷ more)) → IsToken k t v → ts ≡ t ∷ a → chosen_rule n (Some t) (first a) ≡ Some (T k ∷ more, r) → Reads more a rest m
     → IsRead n ts rest (tree_of r (v, m))
-taken {n = n} r is e c d = whole r (by-first n e ∙ c) (followed (one is e) d)
+taken r is e c d = whole r (rw e c) (followed (one is e) d)
 
 pub past : {symbols more : List Symbol} {ts middle : List Token} {m : PhraseTrees symbols} {s : ParseStop} → Reads symbols ts middle m
     → AreStuck more middle s → AreStuck (symbols ++ more) ts s
@@ -68,17 +57,16 @@ pub within : {symbols : List Symbol} {ts : List Token} {s : ParseStop} (more : L
 within more (are_stuck h) = are_stuck (λ others. rw append_assoc (h (more ++ others)))
 within more without_memory = without_memory
 
-pub inside : {n : Nonterminal} {inner : List Symbol} {ts : List Token} {s : ParseStop} (r : Rule n inner)
-    → chosen_rule n (first ts) (second ts) ≡ Some (inner, r) → (Peeks n (first ts) → ⊥) → AreStuck inner ts s → IsStuck n ts s
-inside r c k (are_stuck h) = are_stuck (λ symbols. stuck_inside r c (λ z. absurd (k z)) (h symbols))
-inside r c k without_memory = without_memory
-
--- with what stands after the phrase
+-- stuck within a phrase, with what stands after it
 pub inside-more : {n : Nonterminal} {inner more : List Symbol} {ts : List Token} {s : ParseStop} (r : Rule n inner)
     → chosen_rule n (first ts) (second ts) ≡ Some (inner, r) → (Peeks n (first ts) → ⊥) → AreStuck (inner ++ more) ts s → AreStuck (N n ∷ more) ts s
 inside-more {inner = inner} {more = more} r c k (are_stuck h) =
-    are_stuck (λ symbols. stuck_inside r c (λ z. absurd (k z)) (rw (sym (append_assoc inner more symbols)) (h symbols)))
+    are_stuck (λ symbols. stuck_inside r c (λ z. absurd (k z)) (rw (← append_assoc inner more symbols) (h symbols)))
 inside-more r c k without_memory = without_memory
+
+pub inside : {n : Nonterminal} {inner : List Symbol} {ts : List Token} {s : ParseStop} (r : Rule n inner)
+    → chosen_rule n (first ts) (second ts) ≡ Some (inner, r) → (Peeks n (first ts) → ⊥) → AreStuck inner ts s → IsStuck n ts s
+inside r c k h = inside-more r c k (within [] h)
 
 -- stuck after a part that has a token at least, as the second token may have a say
 pub inside-past : {n : Nonterminal} {symbols more : List Symbol} {ts middle : List Token} {m : PhraseTrees symbols} {s : ParseStop}
@@ -91,7 +79,7 @@ inside-past r c d l without_memory = without_memory
 
 pub begun : {n : Nonterminal} {k : Sort} {more : List Symbol} {t : Token} {v : SortTree k} {ts a : List Token} {s : ParseStop} (r : Rule n (T k ∷ more))
     → IsToken k t v → ts ≡ t ∷ a → chosen_rule n (Some t) (first a) ≡ Some (T k ∷ more, r) → AreStuck more a s → IsStuck n ts s
-begun {n = n} r is e c h = let l = ap length e in inside-past r (by-first n e ∙ c) (one is e) (omega (arith, l)) h
+begun r is e c h = let l = ap length e in inside-past r (rw e c) (one is e) (omega (arith, l)) h
 
 -- no rule begins with what stands there
 pub no-phrase : {n : Nonterminal} {more : List Symbol} {ref : Bor (List Token)} {ts : List Token} → ref.now ≡ ts
@@ -102,25 +90,16 @@ missing-sort : {k : Sort} {more : List Symbol} {ts : List Token} {rest : Bor (Li
     → ((t : Token) (v : SortTree k) → first ts ≡ Some t → IsToken k t v → ⊥) → AreStuck (T k ∷ more) ts (Syntax rest)
 missing-sort e none = are_stuck (λ symbols. rw e (stuck_token none))
 
-the-is : {u : Mark} {t : Token} {v : SortTree (the u)} → IsToken (the u) t v → t ≡ The u
-the-is is_the = refl
-
-name-is : {t : Token} {x : Identifier} → IsToken a_name t x → t ≡ Name x
-name-is is_name = refl
-
-constant-is : {t : Token} {k : Literal} → IsToken a_constant t k → t ≡ Constant k
-constant-is is_constant = refl
-
 pub missing : {u : Mark} {more : List Symbol} {ts : List Token} {s : ParseStop} → IsMissing u ts s → AreStuck (T (the u) ∷ more) ts s
-missing {s = Syntax rest} h = missing-sort h.0 (λ t v e is. h.1 (e ∙ ap Some (the-is is)))
+missing {s = Syntax rest} h = missing-sort h.0 (λ t v e is. h.1 (e ∙ ap Some (token-is is)))
 missing {s = NoMemory} h = without_memory
 
 pub name-missing : {more : List Symbol} {ts : List Token} {s : ParseStop} → IsNameMissing ts s → AreStuck (T a_name ∷ more) ts s
-name-missing {s = Syntax rest} h = missing-sort h.0 (λ t v e is. h.1 v (e ∙ ap Some (name-is is)))
+name-missing {s = Syntax rest} h = missing-sort h.0 (λ t v e is. h.1 v (e ∙ ap Some (token-is is)))
 name-missing {s = NoMemory} h = without_memory
 
 pub constant-missing : {more : List Symbol} {ts : List Token} {s : ParseStop} → IsConstantMissing ts s → AreStuck (T a_constant ∷ more) ts s
-constant-missing {s = Syntax rest} h = missing-sort h.0 (λ t v e is. h.1 v (e ∙ ap Some (constant-is is)))
+constant-missing {s = Syntax rest} h = missing-sort h.0 (λ t v e is. h.1 v (e ∙ ap Some (token-is is)))
 constant-missing {s = NoMemory} h = without_memory
 
 -- a place within a phrase: what was read before, and what goes on from there

@@ -1,7 +1,8 @@
 -- Programs: at most one for the tokens, and the first wrong token.
+use Rattle.std.proofs.Math.Seq.{take-append_seam, take-append-add}
 use Rattle.std.proofs.lemmas.List.{take-append-drop, take-take}
-use Rattle.std.proofs.Common.{drop, append_assoc, ◌≡◌, ◌+◌, ◌<◌, ◌≤◌, ℕ, suc, List, [], ◌∷◌, ◌++◌, take, length, Option, Some, refl, ap, arith}
-use Rattle.std.proofs.Common.{add-one, length-append, ◌-◌}
+use Rattle.std.proofs.Common.{drop, append_assoc, ◌≡◌, ◌+◌, ◌<◌, ◌≤◌, ℕ, List, [], ◌∷◌, ◌++◌, take, length, Option, Some, refl, ap, arith}
+use Rattle.std.proofs.Common.{length-append, ◌-◌}
 use Rattle.c_tokens.specs.declared.token.Token.{Token}
 use Rattle.std.specs.Borrow.{Bor}
 use Rattle.c_front.specs.declared.cursor.ParseStop.TheVariants.{Syntax}
@@ -21,18 +22,6 @@ program-reads d = determined a_program d (by_next (λ x h. h), tt) refl
 pub one-program : {ts : List Token} {p q : List Declaration} → Spells ts p → Spells ts q → p ≡ q
 one-program d e = ap (λ (x : PhraseTrees (N a_program ∷ [])). x.0) (unique (program-reads d) (program-reads e)).1
 
-take-length : (p rest : List Token) → take (length p) (p ++ rest) ≡ p
-take-length [] rest = refl
-take-length (t ∷ p) rest = ap (λ (x : List Token). t ∷ x) (take-length p rest)
-
-take-more : (p : List Token) (t : Token) (rest : List Token) → take (suc (length p)) (p ++ t ∷ rest) ≡ p ++ t ∷ []
-take-more [] t rest = refl
-take-more (u ∷ p) t rest = ap (λ (x : List Token). u ∷ x) (take-more p t rest)
-
-moved-over : (p : List Token) (t : Token) (more : List Token) → (p ++ t ∷ []) ++ more ≡ p ++ t ∷ more
-moved-over [] t more = refl
-moved-over (u ∷ p) t more = ap (λ (x : List Token). u ∷ x) (moved-over p t more)
-
 no-program : (p rest : List Token) (next : Option Token) → StuckAt (N a_program ∷ []) p next → first rest ≡ next → (m : List Declaration) → Spells (p ++ rest) m
     → ⊥
 no-program p rest next s e m d = dead s rest e (program-reads d)
@@ -40,9 +29,8 @@ no-program p rest next s e m d = dead s rest e (program-reads d)
 stuck-wrong : (p rest : List Token) → StuckAt (N a_program ∷ []) p (first rest) → length p < length (p ++ rest) → Begins (take (length p + 1) (p ++ rest)) → ⊥
 stuck-wrong p [] s h b = let e : length (p ++ []) ≡ length p + 0 = length-append p [] in omega (arith, h, e)
 stuck-wrong p (t ∷ rest) s h b =
-    let e : take (length p + 1) (p ++ t ∷ rest) ≡ p ++ t ∷ [] = rw add-one (take-more p t rest) in
-    let c : Begins (p ++ t ∷ []) = rw e at b in
-    no-program p (t ∷ c.0) (Some t) s refl c.1 (rw (moved-over p t c.0) at c.2)
+    let c : Begins (p ++ t ∷ []) = rw (take-append-add p (t ∷ rest) 1) at b in
+    no-program p (t ∷ c.0) (Some t) s refl c.1 (rw append_assoc at c.2)
 
 first-wrong-at : {ts : List Token} (p rest : List Token) → ts ≡ p ++ rest → StuckAt (N a_program ∷ []) p (first rest)
     → IsFirstWrong ts (length ts - length rest)
@@ -50,7 +38,7 @@ first-wrong-at p rest e s =
     let k : length (p ++ rest) - length rest ≡ length p = simp length-append (omega arith) in
     rw (e, k) (record {
       within = simp length-append (omega arith);
-      before = rw (take-length p rest) (elim (complete s) [ completes w {m = m} d ↦ (w, m.0, d) ]);
+      before = rw (take-append_seam p rest) (elim (complete s) [ completes w {m = m} d ↦ (w, m.0, d) ]);
       wrong = stuck-wrong p rest s;
       none = no-program p rest (first rest) s refl;
     })

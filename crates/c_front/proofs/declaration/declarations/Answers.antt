@@ -1,28 +1,26 @@
-use Rattle.std.proofs.Common.{arith, ◌<◌, ◌≤◌, length, refl, sym, append_assoc, append-nil}
+use Rattle.std.proofs.Common.{arith, refl, sym, append_assoc, append-nil}
 use Rattle.std.proofs.lemmas.Result.{IfOk-at_ok}
-use Rattle.c_front.specs.Grammar.{declarations, program_rule, declarations_end, declarations_more}
+use Rattle.c_front.specs.Grammar.{program_rule, declarations_end, declarations_more}
 use Rattle.c_front.specs.Reading.{read_nothing}
 use Rattle.c_tree.specs.Shape.{declarations_of}
 use Rattle.c_front.proofs.Ends.{failed, stops}
 use Rattle.c_front.proofs.Reading.{derived}
-use Rattle.c_front.proofs.Steps.{by-first, whole, within, inside, goes-more}
+use Rattle.c_front.proofs.Steps.{whole, within, inside, goes-more}
 use Rattle.c_front.proofs.Choices.{declarations_of-append}
 use Rattle.c_front.proofs.declaration.declarations.Goals as goal
 
 pub returns-in_err-rest-clause-err : goal.returns-in_err-rest-clause-err
 returns-in_err-rest-clause-err c = failed _ c.from_residual.ensures.1 (inside program_rule refl (λ z. z) (c.declarations.invariant.goes.stuck _
-    (inside declarations_more (by-first declarations c.in-Some.ensures.some) (λ z. z)
+    (inside declarations_more (rw c.in-Some.ensures.some) (λ z. z)
     (within _ (stops _ _ _ _ c.in_err-rest.ensures.err c.declaration.ensures.err)))))
 
 pub declarations-preserved : goal.declarations-preserved
 declarations-preserved c =
     let r = c.in_ok-rest.ensures.ok in
-    let d : length c.declarations.rest.now ≤ length c.args.tokens.now = c.declarations.invariant.shorter in
-    let e : length c.in_ok-rest.rest.now < length c.declarations.rest.now = IfOk-at_ok _ r.1 c.declaration.ensures.shorter in
     rw (r.2, declarations_of-append c.declarations.all.items r.0) (record {
-      goes = goes-more c.declarations.invariant.goes declarations_more (by-first declarations c.in-Some.ensures.some) (λ z. z)
+      goes = goes-more c.declarations.invariant.goes declarations_more (rw c.in-Some.ensures.some) (λ z. z)
           (IfOk-at_ok _ r.1 c.declaration.ensures.ok) (append_assoc (declarations_of c.declarations.all.items) _);
-      shorter = omega (arith, d, e);
+      shorter = omega (arith, c.declarations.invariant.shorter, IfOk-at_ok _ r.1 c.declaration.ensures.shorter);
     })
 
 pub returns-clause-ok : goal.returns-clause-ok

@@ -1,9 +1,9 @@
-use Rattle.std.proofs.Common.{arith, ◌<◌, length, refl, sym, append_assoc, append-nil}
+use Rattle.std.proofs.Common.{arith, refl, sym, append_assoc, append-nil}
 use Rattle.std.proofs.lemmas.Result.{IfOk-at_ok}
 use Rattle.c_front.specs.Grammar.{parameters, more_parameters, is_the, parameters_void, parameters_some, more_parameters_end, more_parameters_more}
 use Rattle.c_front.specs.Reading.{read_nothing}
 use Rattle.c_front.proofs.Ends.{failed, stops}
-use Rattle.c_front.proofs.Steps.{shorter, followed, mark, by-first, whole, taken, within, inside, begun, goes-first, goes-more}
+use Rattle.c_front.proofs.Steps.{shorter, followed, mark, whole, taken, within, inside, begun, goes-first, goes-more}
 use Rattle.c_front.proofs.Choices.{otherwise}
 use Rattle.c_front.proofs.declaration.parameters.Goals as goal
 
@@ -31,12 +31,10 @@ returns-in_err-rest-2-clause-err c = failed _ c.from_residual-in_err-rest-2.ensu
 pub more-preserved : goal.more-preserved
 more-preserved c =
     let r = c.in_ok-rest-2.ensures.ok in
-    let d : length c.more.rest.now < length c.args.tokens.now = c.more.invariant.shorter in
-    let f : length c.in_ok-rest-2.rest.now < length c.in-Some-starts.after.now = IfOk-at_ok _ r.1 c.parameter-in-Some-starts.ensures.shorter in
     rw r.2 (record {
-      goes = goes-more c.more.invariant.goes more_parameters_more (by-first more_parameters c.in-Some-starts.ensures.some) (λ z. z)
+      goes = goes-more c.more.invariant.goes more_parameters_more (rw c.in-Some-starts.ensures.some) (λ z. z)
           (followed (mark c.in-Some-starts.ensures.some) (IfOk-at_ok _ r.1 c.parameter-in-Some-starts.ensures.ok)) (append_assoc c.more.all.items _);
-      shorter = omega (arith, shorter c.in-Some-starts.ensures.some, d, f);
+      shorter = omega (arith, shorter c.in-Some-starts.ensures.some, c.more.invariant.shorter, IfOk-at_ok _ r.1 c.parameter-in-Some-starts.ensures.shorter);
     })
 
 pub returns-clause-ok : goal.returns-clause-ok

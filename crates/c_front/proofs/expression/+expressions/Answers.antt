@@ -1,12 +1,11 @@
-use Rattle.std.proofs.Common.{arith, ◌≡◌, ◌<◌, suc, length, ap, refl}
-use Rattle.c_tokens.specs.declared.token.Token.TheVariants.{Name}
-use Rattle.c_front.specs.Grammar.{choice, operands, unary_expressions, expression_rule, choice_none, choice_some, operand_constant, operand_name, operand_index}
+use Rattle.std.proofs.Common.{arith, refl}
+use Rattle.c_front.specs.Grammar.{choice, expression_rule, choice_none, choice_some, operand_constant, operand_name, operand_index}
 use Rattle.c_front.specs.Grammar.{operand_unary, operand_paren, is_name, is_constant, is_the}
 use Rattle.c_front.specs.Reading.{read_nothing}
 use Rattle.c_front.specs.Parsing.{level_of, without_memory}
 use Rattle.std.proofs.lemmas.Result.{IfOk-at_ok, IfOk-weaker, IfErr-weaker}
 use Rattle.c_front.proofs.Ends.{failed, stops, ended-shorter, unended}
-use Rattle.c_front.proofs.Steps.{at-first, at-mark, shorter, followed, mark, whole, taken, by-second, past, within, inside, begun, no-phrase}
+use Rattle.c_front.proofs.Steps.{at-first, at-mark, shorter, followed, mark, whole, taken, past, within, inside, begun, no-phrase}
 use Rattle.c_front.proofs.Paths.{climbs-first, climbs-more, climbs-end, further-out, lifted, climbs-more-stuck, chosen-prefix, no-operand}
 use Rattle.c_front.proofs.Choices.{no-index, otherwise}
 use Rattle.c_front.proofs.expression.+expressions.Goals as goal
@@ -81,10 +80,8 @@ operands-returns-in_err-new-clause-err t c = failed _ c.from_residual-in_err-new
 
 pub operands-climbing-preserved : goal.operands-climbing-preserved
 operands-climbing-preserved t c =
-    let e : length c.climbing.rest.now ≡ suc (length c.in-Some.after.now) = ap length c.in-Some.ensures.some.2 in
-    let d : length c.climbing.rest.now < length c.args.tokens.now = c.climbing.invariant.shorter in
     rw c.in_ok-new.ensures.ok (climbs-more _ _ _ _ _ _ _ _ _ c.climbing.invariant c.in-Some.ensures.some c.if-found-level.false
-    c.in_ok-right.ensures.ok c.in_ok-right.ensures.ends (omega (arith, e, d, c.in_ok-right.ensures.shorter)))
+    c.in_ok-right.ensures.ok c.in_ok-right.ensures.ends (omega (arith, shorter c.in-Some.ensures.some.2, c.climbing.invariant.shorter, c.in_ok-right.ensures.shorter)))
 
 pub operand-returns-in_default-clause-err : goal.operand-returns-in_default-clause-err
 operand-returns-in_default-clause-err t c = no-phrase c.in_default.ensures.none (λ after. refl)
@@ -101,7 +98,7 @@ operand-returns-in-None-clause-ok t c =
 
 pub operand-returns-in_err-index-in-Some-starts-clause-err : goal.operand-returns-in_err-index-in-Some-starts-clause-err
 operand-returns-in_err-index-in-Some-starts-clause-err t c = failed _ c.from_residual.ensures.1
-    (begun operand_index is_name (at-first c.in-Some.ensures.some c.in-Name.is) (by-second (operands unary_expressions) (Name c.in-Name.name) c.in-Some-starts.ensures.some)
+    (begun operand_index is_name (at-first c.in-Some.ensures.some c.in-Name.is) (rw c.in-Some-starts.ensures.some)
     (past (mark c.in-Some-starts.ensures.some) c.in_err-index-in-Some-starts.ensures.err))
 
 pub operand-returns-in_err-parts-in-Some-starts-clause-err : goal.operand-returns-in_err-parts-in-Some-starts-clause-err
@@ -109,7 +106,7 @@ operand-returns-in_err-parts-in-Some-starts-clause-err t c = failed _ c.from_res
 
 pub operand-returns-in_ok-parts-in-Some-starts-clause-ok : goal.operand-returns-in_ok-parts-in-Some-starts-clause-ok
 operand-returns-in_ok-parts-in-Some-starts-clause-ok t c = rw c.in_ok-parts-in-Some-starts.ensures.ok
-    (taken operand_index is_name (at-first c.in-Some.ensures.some c.in-Name.is) (by-second (operands unary_expressions) (Name c.in-Name.name) c.in-Some-starts.ensures.some)
+    (taken operand_index is_name (at-first c.in-Some.ensures.some c.in-Name.is) (rw c.in-Some-starts.ensures.some)
     (followed (mark c.in-Some-starts.ensures.some) c.in_ok-index-in-Some-starts.ensures.ok))
 
 pub operand-returns-in_err-inner-in-The-clause-err : goal.operand-returns-in_err-inner-in-The-clause-err
@@ -137,9 +134,7 @@ operand-returns-in_default-mark-clause-err t c = no-phrase (at-first c.in-Some.e
     (no-operand _ c.in_default-prefix_of.ensures.none c.in_default-mark.not-LeftParen)
 
 pub expression-choice-requires : goal.expression-choice-requires
-expression-choice-requires t c =
-    let e : length c.in_ok-condition.rest.now ≡ suc (length c.in-Some.after.now) = ap length c.in-Some.ensures.some in
-    (omega (arith, c.in_ok-condition.ensures.shorter, e), tt)
+expression-choice-requires t c = (omega (arith, c.in_ok-condition.ensures.shorter, shorter c.in-Some.ensures.some), tt)
 
 pub choice-expression-requires : goal.choice-expression-requires
 choice-expression-requires t c = (omega (arith, c.in_ok-first.ensures.shorter), tt)

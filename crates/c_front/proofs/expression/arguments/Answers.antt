@@ -1,17 +1,17 @@
-use Rattle.std.proofs.Common.{arith, ◌<◌, length, refl, sym, append_assoc, append-nil}
+use Rattle.std.proofs.Common.{arith, refl, sym, append_assoc, append-nil}
 use Rattle.std.proofs.lemmas.Result.{IfOk-at_ok, IfOk-weaker, IfErr-weaker}
 use Rattle.c_front.proofs.Ends.{failed, stops, plain-ended, plain-unended}
 use Rattle.c_tokens.specs.declared.token.Mark.TheVariants.{RightParen}
 use Rattle.c_tree.specs.Shape.{expressions_of}
 use Rattle.c_front.proofs.Choices.{expressions_of-append, otherwise}
-use Rattle.c_front.proofs.Steps.{shorter, followed, mark, missing, by-first, whole, past, within, inside, begun, goes-first, goes-more}
+use Rattle.c_front.proofs.Steps.{shorter, followed, mark, missing, whole, past, within, inside, begun, goes-first, goes-more}
 use Rattle.c_front.specs.Grammar.{arguments, more_arguments, arguments_none, arguments_some, more_arguments_end, more_arguments_more, is_the}
 use Rattle.c_front.specs.Reading.{read_nothing}
 use Rattle.c_front.proofs.expression.arguments.Goals as goal
 
 pub returns-in-Some-clause-ok : goal.returns-in-Some-clause-ok
 returns-in-Some-clause-ok c = rw c.new-all.ensures.items
-    (followed (whole arguments_none (by-first arguments c.in-Some.ensures.some) read_nothing) (mark c.in-Some.ensures.some))
+    (followed (whole arguments_none (rw c.in-Some.ensures.some) read_nothing) (mark c.in-Some.ensures.some))
 
 pub returns-in_err-rest-clause-err : goal.returns-in_err-rest-clause-err
 returns-in_err-rest-clause-err c = failed _ c.from_residual.ensures.1 (within _ (inside arguments_some (otherwise arguments _ c.in_default.ensures.none) (λ z. z)
@@ -34,13 +34,11 @@ returns-in_err-rest-2-clause-err c = failed _ c.from_residual-in_err-rest-2.ensu
 pub more-preserved : goal.more-preserved
 more-preserved c =
     let r = c.in_ok-rest-2.ensures.ok in
-    let d : length c.more.rest.now < length c.args.tokens.now = c.more.invariant.shorter in
-    let f : length c.in_ok-rest-2.rest.now < length c.in-Some-starts.after.now = IfOk-at_ok _ r.1 c.expression-in-Some-starts.ensures.shorter in
     rw (r.2, expressions_of-append c.more.all.items r.0) (record {
-      goes = goes-more c.more.invariant.goes more_arguments_more (by-first more_arguments c.in-Some-starts.ensures.some) (λ z. z)
+      goes = goes-more c.more.invariant.goes more_arguments_more (rw c.in-Some-starts.ensures.some) (λ z. z)
           (followed (mark c.in-Some-starts.ensures.some) (IfOk-at_ok _ r.1 c.expression-in-Some-starts.ensures.ok))
           (append_assoc (expressions_of c.more.all.items) _);
-      shorter = omega (arith, shorter c.in-Some-starts.ensures.some, d, f);
+      shorter = omega (arith, shorter c.in-Some-starts.ensures.some, c.more.invariant.shorter, IfOk-at_ok _ r.1 c.expression-in-Some-starts.ensures.shorter);
     })
 
 pub returns-clause-err : goal.returns-clause-err

@@ -1,7 +1,7 @@
 use Rattle.std.proofs.Common.{refl}
-use Rattle.c_front.specs.Grammar.{value, is_name, value_plain, value_call, call_rule}
+use Rattle.c_front.specs.Grammar.{is_name, value_plain, value_call, call_rule}
 use Rattle.c_front.proofs.Ends.{failed}
-use Rattle.c_front.proofs.Steps.{followed, mark, by-first, whole, taken}
+use Rattle.c_front.proofs.Steps.{followed, mark, whole, taken}
 use Rattle.c_front.proofs.Choices.{call-stuck, plain-chosen, value-plain-stuck}
 use Rattle.c_front.proofs.expression.value.Goals as goal
 
@@ -15,7 +15,7 @@ returns-in_err-inner-in-None-clause-err c =
 
 pub returns-in_ok-arguments-in-Some-clause-ok : goal.returns-in_ok-arguments-in-Some-clause-ok
 returns-in_ok-arguments-in-Some-clause-ok c = let e = c.in-Some.ensures.some in
-    whole value_call (by-first value e) (taken call_rule is_name e refl (followed (mark refl) c.in_ok-arguments-in-Some.ensures.ok))
+    whole value_call (rw e) (taken call_rule is_name e refl (followed (mark refl) c.in_ok-arguments-in-Some.ensures.ok))
 
 pub returns-in_ok-inner-in-None-clause-ok : goal.returns-in_ok-inner-in-None-clause-ok
 returns-in_ok-inner-in-None-clause-ok c = whole value_plain (plain-chosen _ _ c.in-None.ensures.none) c.in_ok-inner-in-None.ensures.ok

@@ -1,4 +1,4 @@
-use Rattle.std.proofs.Common.{arith, ◌<◌, ◌≤◌, length, refl, sym}
+use Rattle.std.proofs.Common.{arith, refl, sym}
 use Rattle.c_front.specs.Grammar.{an_item, else_part, is_the, is_name, items_end, items_more, item_declare, item_statement, statement_empty, statement_block, statement_if}
 use Rattle.c_front.specs.Grammar.{statement_while, statement_for, statement_simple, else_none, else_some}
 use Rattle.c_tree.specs.Shape.{items_of}
@@ -134,9 +134,7 @@ for_loop-returns-clause-ok t c = taken statement_for is_the refl refl
 
 pub for_loop-returns-clause-shorter : goal.for_loop-returns-clause-shorter
 for_loop-returns-clause-shorter t c =
-    let p : length c.in_ok-parts.start.now < length c.args.tokens.now = IfOk-at_ok _ c.in_ok-parts.ensures.ok c.for_parts.ensures.shorter in
-    let b : length c.in_ok-body.end.now < length c.in_ok-parts.start.now = IfOk-at_ok _ c.in_ok-body.ensures.ok c.statement.ensures.shorter in
-    omega (arith, p, b)
+    omega (arith, IfOk-at_ok _ c.in_ok-parts.ensures.ok c.for_parts.ensures.shorter, IfOk-at_ok _ c.in_ok-body.ensures.ok c.statement.ensures.shorter)
 
 pub item-returns-in_err-name-in-Some-clause-err : goal.item-returns-in_err-name-in-Some-clause-err
 item-returns-in_err-name-in-Some-clause-err t c = failed _ c.from_residual.ensures.1
@@ -177,12 +175,10 @@ items-returns-in_err-rest-clause-err t c =
 pub items-items-preserved : goal.items-items-preserved
 items-items-preserved t c =
     let r = c.in_ok-rest.ensures.ok in
-    let d : length c.items.rest.now ≤ length c.args.tokens.now = c.items.invariant.shorter in
-    let e : length c.in_ok-rest.rest.now < length c.items.rest.now = IfOk-at_ok _ r.1 c.item.ensures.shorter in
     rw (r.2, items_of-append c.items.all.items r.0) (record {
       goes = goes-more c.items.invariant.goes items_more (c.ends_items.ensures.more c.items-test.true) (λ z. z)
           (IfOk-at_ok _ r.1 c.item.ensures.ok) (after-after (items_of c.items.all.items) _);
-      shorter = omega (arith, d, e);
+      shorter = omega (arith, c.items.invariant.shorter, IfOk-at_ok _ r.1 c.item.ensures.shorter);
     })
 
 pub if_then-statement-requires : goal.if_then-statement-requires
@@ -199,9 +195,10 @@ if_then-returns-in-None-clause-shorter t c =
     omega (arith, c.in_ok-test.ensures.shorter, IfOk-at_ok _ c.in_ok-first.ensures.ok c.statement.ensures.shorter)
 
 pub if_then-statement-requires-in-Some : goal.if_then-statement-requires-in-Some
-if_then-statement-requires-in-Some t c =
-    let b : length c.in_ok-first.rest.now < length c.in_ok-test.start.now = IfOk-at_ok _ c.in_ok-first.ensures.ok c.statement.ensures.shorter in
-    (omega (arith, c.in_ok-test.ensures.shorter, b, shorter c.in-Some.ensures.some), tt)
+if_then-statement-requires-in-Some t c = (
+  omega (arith, c.in_ok-test.ensures.shorter, IfOk-at_ok _ c.in_ok-first.ensures.ok c.statement.ensures.shorter, shorter c.in-Some.ensures.some),
+  tt,
+)
 
 pub statement-items-requires : goal.statement-items-requires
 statement-items-requires t c = (omega (arith, shorter c.in-Some.ensures.some), tt)
