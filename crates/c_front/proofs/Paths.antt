@@ -134,14 +134,3 @@ no-operand Tilde p c after = absurd (p.2 refl)
 no-operand Bang p c after = absurd (p.3 refl)
 no-operand LeftParen p c after = absurd (c refl)
 no-operand _ p c after = refl
-
-none-operates : {l : Level} {w : BinaryOp} {t : Mark} → Operator l w t → t ≢ Star → t ≢ Slash → t ≢ Percent → t ≢ Plus → t ≢ Minus → t ≢ LessLess
-    → t ≢ GreaterGreater → t ≢ LessSign → t ≢ GreaterSign → t ≢ LessEqual → t ≢ GreaterEqual →
-    t ≢ EqualEqual → t ≢ BangEqual → t ≢ Ampersand → t ≢ Caret → t ≢ Bar → t ≢ AndAnd → t ≢ BarBar → ⊥
-none-operates multiply a b c d e f g h i j k m n o p q r s = a refl
-none-operates _ a b c d e f g h i j k m n o p q r s = grind arith
-
-pub no-operator : (t : Mark) → t ≢ Star → t ≢ Slash → t ≢ Percent → t ≢ Plus → t ≢ Minus → t ≢ LessLess → t ≢ GreaterGreater → t ≢ LessSign → t ≢ GreaterSign
-    → t ≢ LessEqual → t ≢ GreaterEqual →
-    t ≢ EqualEqual → t ≢ BangEqual → t ≢ Ampersand → t ≢ Caret → t ≢ Bar → t ≢ AndAnd → t ≢ BarBar → (l : Level) → EndsOperands l (Some (The t))
-no-operator t a b c d e f g h i j k m n o p q r s l = none-operating l t (λ w x. none-operates x a b c d e f g h i j k m n o p q r s)
