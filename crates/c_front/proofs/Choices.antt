@@ -105,13 +105,9 @@ no-mark While a b c d e = absurd (d refl)
 no-mark For a b c d e = absurd (e refl)
 no-mark _ a b c d e = refl
 
-pub mark-item : (t : Mark) → t ≢ RightBrace → StartsItem (Some (The t))
-mark-item RightBrace h = absurd (h refl)
-mark-item _ h = refl
-
-pub other-item : (t : Token) → ((m : Mark) → t ≢ The m) → StartsItem (Some t)
-other-item (The m) h = absurd (h m refl)
-other-item _ h = refl
+pub item-follows : (t : Token) → t ≢ The RightBrace → StartsItem (Some t)
+item-follows (The RightBrace) h = absurd (h refl)
+item-follows _ h = refl
 
 pub unnamed : (ts : List Token) (s : ParseStop) → IsNameMissing ts s → StartsUnnamed ts
 unnamed ts (Syntax rest) h = h.1

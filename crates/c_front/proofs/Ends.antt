@@ -6,7 +6,7 @@ use Rattle.c_tokens.specs.declared.token.Mark.{Mark}
 use Rattle.c_tokens.specs.declared.token.Token.{Token}
 use Rattle.c_front.specs.declared.cursor.ParseStop.{ParseStop}
 use Rattle.c_front.specs.Grammar.{Symbol, the, PhraseTrees, T}
-use Rattle.c_front.specs.Parsing.{StartsWith, IsMissing, AreStuck, without_memory}
+use Rattle.c_front.specs.Parsing.{StartsWith, AreStuck, without_memory}
 use Rattle.c_front.specs.Ends.{Parsed, StopsAs, IsEnded, IsUnended}
 use Rattle.c_front.proofs.Steps.{missing, past, within}
 use Rattle.c_front.specs.Reading.{Reads}
@@ -23,15 +23,11 @@ failed (Err x) e h = rw e h
 failed (Ok x) e h = tt
 
 -- a part that was read already, with the mark behind it
-module _ {A : Type 0} {x : A} {ts : Bor (List Token)} (u : Mark) where
-  pub plain-ended : (r : A × Bor (List Token)) → IsEnded (Ok (x, ts)) u r → (r.0 ≡ x) × StartsWith u ts.now r.1.now
-  plain-ended r (rest, e, m) =
-      let same : (r.0 ≡ x) × (ts ≡ rest) = IfOk-at_ok (λ p. (p.0 ≡ x) × (ts ≡ p.1)) e (refl, refl) in
-      (same.0, rw same.1 m)
-
-  pub plain-unended : (s : ParseStop) → IsUnended (Ok (x, ts)) u s → IsMissing u ts.now s
-  plain-unended s (inl e) = cc
-  plain-unended s (inr (a, rest, e, m)) = let same : ts ≡ rest = IfOk-at_ok (λ p. ts ≡ p.1) e refl in rw same m
+pub plain-ended : {A : Type 0} {x : A} {ts : Bor (List Token)} (u : Mark) (r : A × Bor (List Token)) → IsEnded (Ok (x, ts)) u r
+    → (r.0 ≡ x) × StartsWith u ts.now r.1.now
+plain-ended {x = x} {ts = ts} u r (rest, e, m) =
+    let same : (r.0 ≡ x) × (ts ≡ rest) = IfOk-at_ok (λ p. (p.0 ≡ x) × (ts ≡ p.1)) e (refl, refl) in
+    (same.0, rw same.1 m)
 
 module _ {A : Type 0} (parsed : Parsed A) (u : Mark) where
   pub ended-shorter : (ts : List Token) (r : A × Bor (List Token)) → IsEnded parsed u r → IfOk parsed (λ p. length p.1.now < length ts)

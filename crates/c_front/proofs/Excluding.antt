@@ -1,6 +1,7 @@
 -- A text that has a fault spells nothing.
-use Rattle.std.proofs.Common.{◌≡◌, ◌<◌, ℕ, List, [], Bool, true, false, length, refl, ap, arith}
+use Rattle.std.proofs.Common.{◌≡◌, ◌<◌, ℕ, List, [], length, refl, ap, arith}
 use Rattle.c_tokens.specs.declared.token.Token.{Token}
+use Rattle.c_tokens.proofs.Finding.{true-false}
 use Rattle.c_tokens.proofs.Once.{lexes-once, never-lexes, stops-once}
 use Rattle.c_front.specs.declared.fault.FrontFaultKind.{FrontFaultKind}
 use Rattle.c_front.specs.declared.fault.FrontFaultKind.TheVariants.{NoMemory}
@@ -9,9 +10,6 @@ use Rattle.c_front.specs.Texts.{SpellsText, IsTextFault, IsBadByte, place_or, re
 use Rattle.c_front.proofs.Theorems.{one-program, one-wrong}
 use Rattle.c_tokens.specs.Texts.{Lexes}
 use Rattle.c_front.specs.Syntax.{IsFirstWrong}
-
-true-false : {x : Bool} → x ≡ true → x ≡ false → ⊥
-true-false e f = cc
 
 pub once : (text : List ℕ) (p q : List Declaration) → SpellsText text p → SpellsText text q → p ≡ q
 once text p q s t =

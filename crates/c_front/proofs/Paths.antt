@@ -3,12 +3,10 @@ use Rattle.std.proofs.Common.{◌≡◌, ◌≢◌, ◌<◌, ◌≤◌, ℕ, suc
 use Rattle.c_tokens.specs.declared.token.Token.{Token}
 use Rattle.c_tokens.specs.declared.token.Token.TheVariants.{The}
 use Rattle.c_tokens.specs.declared.token.Mark.{Mark}
-use Rattle.c_tokens.specs.declared.token.Mark.TheVariants.{LeftParen, Plus, Minus, Star, Slash, Percent, Bang, Tilde, BarBar, AndAnd}
-use Rattle.c_tokens.specs.declared.token.Mark.TheVariants.{Bar, Caret, Ampersand, EqualEqual, BangEqual, LessSign, GreaterSign, LessEqual, GreaterEqual}
-use Rattle.c_tokens.specs.declared.token.Mark.TheVariants.{LessLess, GreaterGreater}
+use Rattle.c_tokens.specs.declared.token.Mark.TheVariants.{LeftParen, Plus, Minus, Bang, Tilde}
 use Rattle.c_tree.specs.declared.tree.UnaryOp.{UnaryOp}
 use Rattle.c_tree.specs.declared.tree.BinaryOp.{BinaryOp}
-use Rattle.c_front.specs.Grammar.{the, Level, unary_expressions, above, operands, more_operands, T, N, Operator, multiply, Prefix, negate}
+use Rattle.c_front.specs.Grammar.{the, Level, unary_expressions, above, operands, more_operands, T, N, Operator, Prefix, negate}
 use Rattle.c_front.specs.Grammar.{operands_rule, operands_end, operands_more, operand_unary, grouping_of, first, second}
 use Rattle.c_front.specs.Reading.{read_nothing}
 use Rattle.c_front.specs.Choosing.{chosen_rule, EndsOperands}
@@ -17,7 +15,7 @@ use Rattle.c_tree.specs.Tree.{Expression, binary}
 use Rattle.c_front.specs.Parsing.{level_of, EndsBelow, IsRead, IsStuck, StartsWithOperator, IsNoPrefix}
 use Rattle.c_front.proofs.Steps.{followed, mark, whole, past, within, inside, GoesOn, goes-first, goes-more}
 use Rattle.c_front.proofs.Reading.{same-symbols}
-use Rattle.c_front.proofs.Ranks.{none-operating, chosen-operator, rank, operator-rank, ends-operands}
+use Rattle.c_front.proofs.Ranks.{chosen-operator, rank, operator-rank, ends-operands}
 
 -- a place within the operands of a level: `left` was read
 abbrev pub GoesOnOperands : Level → List Token → List Token → Expression → Type 0

@@ -3,7 +3,7 @@ use Rattle.std.proofs.Common.{◌<◌, ◌≤◌, arith, length, ◌≡◌, ◌�
 use Rattle.c_tokens.specs.declared.token.Token.{Token}
 use Rattle.c_tokens.specs.declared.token.Token.TheVariants.{Name, Jump, The, Constant}
 use Rattle.c_tokens.specs.declared.token.Mark.TheVariants.{Unsigned, Else, Minus}
-use Rattle.c_front.specs.Grammar.{Sort, a_name, a_constant, a_jump, the, unary_expressions, Nonterminal, a_declaration, a_type, a_statement, else_part}
+use Rattle.c_front.specs.Grammar.{parameters, parameters_some, Sort, a_name, a_constant, a_jump, the, unary_expressions, Nonterminal, a_declaration, a_type, a_statement, else_part}
 use Rattle.c_front.specs.Grammar.{simple, value, a_call, an_expression, operands, Symbol, T, N, SortTree, PhraseTrees, Rule, declaration_typed}
 use Rattle.c_front.specs.Grammar.{else_none, simple_call, value_plain, value_call, expression_rule, operands_rule}
 use Rattle.c_front.specs.Grammar.{tree_of, first, second, MayPrecede, IsToken, is_name, Derives, nothing, token, phrase}
@@ -45,6 +45,7 @@ stuck-within _ = omega arith
 -- some phrases that have a token at least
 abbrev Takes : Nonterminal → Type 0
 Takes a_type = Unit {0}
+Takes parameters = Unit {0}
 Takes a_call = Unit {0}
 Takes an_expression = Unit {0}
 Takes (operands l) = Unit {0}
@@ -54,6 +55,7 @@ pub takes : {n : Nonterminal} {symbols : List Symbol} {ts rest : List Token} {m 
     → length rest < length ts
 takes h (read_phrase expression_rule c d e d') = let a = takes tt d in let b = reads-within d' in omega (arith, a, b)
 takes h (read_phrase operands_rule c d e d') = let a = takes tt d in let b = reads-within d' in omega (arith, a, b)
+takes h (read_phrase parameters_some c d e d') = let a = takes tt d in let b = reads-within d' in omega (arith, a, b)
 takes h (read_phrase _ c (read_token i d) e d') = let a = reads-within d in let b = reads-within d' in omega (arith, a, b)
 takes h (read_phrase _ c d e d') = absurd h
 

@@ -1,7 +1,7 @@
 -- Programs: at most one for the tokens, and the first wrong token.
 use Rattle.std.proofs.Math.Seq.{take-append_seam, take-append-add}
 use Rattle.std.proofs.lemmas.List.{take-append-drop, take-take}
-use Rattle.std.proofs.Common.{drop, append_assoc, ◌≡◌, ◌+◌, ◌<◌, ◌≤◌, ℕ, List, [], ◌∷◌, ◌++◌, take, length, Option, Some, refl, ap, arith}
+use Rattle.std.proofs.Common.{drop, append_assoc, ◌≡◌, ◌+◌, ◌<◌, ◌≤◌, ℕ, List, [], ◌∷◌, ◌++◌, take, length, refl, ap, arith}
 use Rattle.std.proofs.Common.{length-append, ◌-◌}
 use Rattle.c_tokens.specs.declared.token.Token.{Token}
 use Rattle.std.specs.Borrow.{Bor}
@@ -22,15 +22,11 @@ program-reads d = determined a_program d (by_next (λ x h. h), tt) refl
 pub one-program : {ts : List Token} {p q : List Declaration} → Spells ts p → Spells ts q → p ≡ q
 one-program d e = ap (λ (x : PhraseTrees (N a_program ∷ [])). x.0) (unique (program-reads d) (program-reads e)).1
 
-no-program : (p rest : List Token) (next : Option Token) → StuckAt (N a_program ∷ []) p next → first rest ≡ next → (m : List Declaration) → Spells (p ++ rest) m
-    → ⊥
-no-program p rest next s e m d = dead s rest e (program-reads d)
-
 stuck-wrong : (p rest : List Token) → StuckAt (N a_program ∷ []) p (first rest) → length p < length (p ++ rest) → Begins (take (length p + 1) (p ++ rest)) → ⊥
 stuck-wrong p [] s h b = let e : length (p ++ []) ≡ length p + 0 = length-append p [] in omega (arith, h, e)
 stuck-wrong p (t ∷ rest) s h b =
     let c : Begins (p ++ t ∷ []) = rw (take-append-add p (t ∷ rest) 1) at b in
-    no-program p (t ∷ c.0) (Some t) s refl c.1 (rw append_assoc at c.2)
+    dead s (t ∷ c.0) refl (program-reads (rw append_assoc at c.2))
 
 first-wrong-at : {ts : List Token} (p rest : List Token) → ts ≡ p ++ rest → StuckAt (N a_program ∷ []) p (first rest)
     → IsFirstWrong ts (length ts - length rest)
@@ -40,7 +36,7 @@ first-wrong-at p rest e s =
       within = simp length-append (omega arith);
       before = rw (take-append_seam p rest) (elim (complete s) [ completes w {m = m} d ↦ (w, m.0, d) ]);
       wrong = stuck-wrong p rest s;
-      none = no-program p rest (first rest) s refl;
+      none = λ m d. dead s rest refl (program-reads d);
     })
 
 -- where the derivation of a program gets stuck is the first wrong token

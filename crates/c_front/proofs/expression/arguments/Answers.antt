@@ -1,10 +1,11 @@
-use Rattle.std.proofs.Common.{arith, refl, sym, append_assoc, append-nil}
+use Rattle.std.proofs.Common.{[], arith, refl, sym, append_assoc, append-nil}
 use Rattle.std.proofs.lemmas.Result.{IfOk-at_ok, IfOk-weaker, IfErr-weaker}
-use Rattle.c_front.proofs.Ends.{failed, stops, plain-ended, plain-unended}
+use Rattle.c_front.proofs.Ends.{failed, stops, plain-ended, unended}
 use Rattle.c_tokens.specs.declared.token.Mark.TheVariants.{RightParen}
 use Rattle.c_tree.specs.Shape.{expressions_of}
+use Rattle.c_front.proofs.Reading.{reads-within}
 use Rattle.c_front.proofs.Choices.{expressions_of-append, otherwise}
-use Rattle.c_front.proofs.Steps.{shorter, followed, mark, missing, whole, past, within, inside, begun, goes-first, goes-more}
+use Rattle.c_front.proofs.Steps.{shorter, followed, mark, whole, past, within, inside, begun, goes-first, goes-more}
 use Rattle.c_front.specs.Grammar.{arguments, more_arguments, arguments_none, arguments_some, more_arguments_end, more_arguments_more, is_the}
 use Rattle.c_front.specs.Reading.{read_nothing}
 use Rattle.c_front.proofs.expression.arguments.Goals as goal
@@ -20,38 +21,38 @@ returns-in_err-rest-clause-err c = failed _ c.from_residual.ensures.1 (within _ 
 pub more-init : goal.more-init
 more-init c =
     let r = c.in_ok-rest.ensures.ok in
-    rw (r.2, c.new-all.ensures.items) (record {
-      goes = goes-more goes-first arguments_some (otherwise arguments _ c.in_default.ensures.none) (λ z. z)
-          (IfOk-at_ok _ r.1 c.expression.ensures.ok) (λ m. refl);
-      shorter = IfOk-at_ok _ r.1 c.expression.ensures.shorter;
-    })
+    rw (r.2, c.new-all.ensures.items) (goes-more goes-first arguments_some (otherwise arguments _ c.in_default.ensures.none) (λ z. z)
+    (IfOk-at_ok _ r.1 c.expression.ensures.ok) (λ m. refl))
 
 pub returns-in_err-rest-2-clause-err : goal.returns-in_err-rest-2-clause-err
-returns-in_err-rest-2-clause-err c = failed _ c.from_residual-in_err-rest-2.ensures.1 (within _ (c.more.invariant.goes.stuck _
+returns-in_err-rest-2-clause-err c = failed _ c.from_residual-in_err-rest-2.ensures.1 (within _ (c.more.invariant.stuck _
     (begun more_arguments_more is_the c.in-Some-starts.ensures.some refl
     (within _ (stops _ _ _ _ c.in_err-rest-2.ensures.err c.expression-in-Some-starts.ensures.err)))))
 
 pub more-preserved : goal.more-preserved
 more-preserved c =
     let r = c.in_ok-rest-2.ensures.ok in
-    rw (r.2, expressions_of-append c.more.all.items r.0) (record {
-      goes = goes-more c.more.invariant.goes more_arguments_more (rw c.in-Some-starts.ensures.some) (λ z. z)
-          (followed (mark c.in-Some-starts.ensures.some) (IfOk-at_ok _ r.1 c.expression-in-Some-starts.ensures.ok))
-          (append_assoc (expressions_of c.more.all.items) _);
-      shorter = omega (arith, shorter c.in-Some-starts.ensures.some, c.more.invariant.shorter, IfOk-at_ok _ r.1 c.expression-in-Some-starts.ensures.shorter);
-    })
+    rw (r.2, expressions_of-append c.more.all.items r.0)
+    (goes-more c.more.invariant more_arguments_more (rw c.in-Some-starts.ensures.some) (λ z. z)
+    (followed (mark c.in-Some-starts.ensures.some) (IfOk-at_ok _ r.1 c.expression-in-Some-starts.ensures.ok))
+    (append_assoc (expressions_of c.more.all.items) _))
 
 pub returns-clause-err : goal.returns-clause-err
 returns-clause-err c = IfErr-weaker c.expect_after.result _ _
-    (λ s d. past (c.more.invariant.goes.reads _ _ (whole more_arguments_end (otherwise more_arguments _ c.in_default-starts.ensures.none) read_nothing))
-    (missing (plain-unended RightParen s d))) c.expect_after.ensures.err
+    (λ s d. past (c.more.invariant.reads _ _ (whole more_arguments_end (otherwise more_arguments _ c.in_default-starts.ensures.none) read_nothing))
+    (unended _ _ [] _ (λ _. tt) s d read_nothing tt)) c.expect_after.ensures.err
 
 pub returns-clause-ok : goal.returns-clause-ok
 returns-clause-ok c = IfOk-weaker c.expect_after.result _ _
     (λ r d. let h = plain-ended RightParen r d in rw (h.0, sym (append-nil (expressions_of c.more.all.items)))
-    (followed (c.more.invariant.goes.reads _ _ (whole more_arguments_end (otherwise more_arguments _ c.in_default-starts.ensures.none) read_nothing)) (mark h.1)))
+    (followed (c.more.invariant.reads _ _ (whole more_arguments_end (otherwise more_arguments _ c.in_default-starts.ensures.none) read_nothing)) (mark h.1)))
     c.expect_after.ensures.ok
 
 pub returns-clause-shorter : goal.returns-clause-shorter
 returns-clause-shorter c = IfOk-weaker c.expect_after.result _ _
-    (λ r d. omega (arith, shorter (plain-ended RightParen r d).1, c.more.invariant.shorter)) c.expect_after.ensures.ok
+    (λ r d. omega (
+      arith,
+      shorter (plain-ended RightParen r d).1,
+      reads-within
+          (c.more.invariant.reads _ _ (whole more_arguments_end (otherwise more_arguments _ c.in_default-starts.ensures.none) read_nothing)),
+    )) c.expect_after.ensures.ok

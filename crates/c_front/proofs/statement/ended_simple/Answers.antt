@@ -1,15 +1,15 @@
-use Rattle.std.proofs.Common.{refl}
+use Rattle.std.proofs.Common.{refl, []}
 use Rattle.std.proofs.lemmas.Result.{IfOk-at_ok, IfOk-weaker, IfErr-weaker}
 use Rattle.c_front.specs.Reading.{read_nothing}
-use Rattle.c_front.proofs.Ends.{failed, plain-ended, plain-unended, unended}
-use Rattle.c_front.proofs.Steps.{followed, mark, missing, whole, past, inside-more}
+use Rattle.c_front.proofs.Ends.{failed, plain-ended, unended}
+use Rattle.c_front.proofs.Steps.{followed, mark, whole, past, inside-more}
 use Rattle.c_front.proofs.Choices.{unnamed, otherwise}
 use Rattle.c_front.specs.Grammar.{maybe_simple, simple_none, simple_some}
 use Rattle.c_front.proofs.statement.ended_simple.Goals as goal
 
 pub returns-in-Err-clause-err : goal.returns-in-Err-clause-err
 returns-in-Err-clause-err c = IfErr-weaker c.expect_after-in-Err.result _ _
-    (λ s d. past (whole simple_none (otherwise maybe_simple _ (unnamed _ _ c.in-Err.ensures.err)) read_nothing) (missing (plain-unended c.args.closing s d)))
+    (λ s d. past (whole simple_none (otherwise maybe_simple _ (unnamed _ _ c.in-Err.ensures.err)) read_nothing) (unended _ _ [] _ (λ _. tt) s d read_nothing tt))
     c.expect_after-in-Err.ensures.err
 
 pub returns-in-Err-clause-ok : goal.returns-in-Err-clause-ok

@@ -1,14 +1,15 @@
-use Rattle.std.proofs.Common.{refl}
+use Rattle.std.proofs.Common.{refl, []}
+use Rattle.c_front.specs.Reading.{read_nothing}
 use Rattle.std.proofs.lemmas.Result.{IfOk-weaker, IfErr-weaker}
 use Rattle.c_tokens.specs.declared.token.Mark.TheVariants.{Semicolon}
 use Rattle.c_front.specs.Grammar.{statement_break, statement_continue, statement_return, is_jump}
-use Rattle.c_front.proofs.Ends.{failed, plain-ended, plain-unended}
-use Rattle.c_front.proofs.Steps.{mark, missing, taken, begun}
+use Rattle.c_front.proofs.Ends.{failed, plain-ended, unended}
+use Rattle.c_front.proofs.Steps.{mark, taken, begun}
 use Rattle.c_front.proofs.statement.jump.Goals as goal
 
 pub returns-in-Break-clause-err : goal.returns-in-Break-clause-err
 returns-in-Break-clause-err c = IfErr-weaker c.expect_after.result _ _
-    (λ s d. rw c.in-Break.is (begun statement_break is_jump refl refl (missing (plain-unended Semicolon s d)))) c.expect_after.ensures.err
+    (λ s d. rw c.in-Break.is (begun statement_break is_jump refl refl (unended _ _ [] _ (λ _. tt) s d read_nothing tt))) c.expect_after.ensures.err
 
 pub returns-in-Break-clause-ok : goal.returns-in-Break-clause-ok
 returns-in-Break-clause-ok c = IfOk-weaker c.expect_after.result _ _
@@ -16,7 +17,7 @@ returns-in-Break-clause-ok c = IfOk-weaker c.expect_after.result _ _
 
 pub returns-in-Continue-clause-err : goal.returns-in-Continue-clause-err
 returns-in-Continue-clause-err c = IfErr-weaker c.expect_after-in-Continue.result _ _
-    (λ s d. rw c.in-Continue.is (begun statement_continue is_jump refl refl (missing (plain-unended Semicolon s d)))) c.expect_after-in-Continue.ensures.err
+    (λ s d. rw c.in-Continue.is (begun statement_continue is_jump refl refl (unended _ _ [] _ (λ _. tt) s d read_nothing tt))) c.expect_after-in-Continue.ensures.err
 
 pub returns-in-Continue-clause-ok : goal.returns-in-Continue-clause-ok
 returns-in-Continue-clause-ok c = IfOk-weaker c.expect_after-in-Continue.result _ _
