@@ -32,10 +32,7 @@ more-preserved c =
     rw r.2 (goes-more c.more.invariant more_parameters_more (rw c.in-Some-starts.ensures.some) (λ z. z)
     (followed (mark c.in-Some-starts.ensures.some) (IfOk-at_ok _ r.1 c.parameter-in-Some-starts.ensures.ok)) (append_assoc c.more.all.items _))
 
-pub returns-clause-ok : goal.returns-clause-ok
-returns-clause-ok c = rw (sym (append-nil c.more.all.items))
-    (c.more.invariant.reads _ _ (whole more_parameters_end (otherwise more_parameters _ c.in_default-starts.ensures.none) read_nothing))
-
-pub returns-clause-shorter : goal.returns-clause-shorter
-returns-clause-shorter c = takes tt
-    (c.more.invariant.reads _ _ (whole more_parameters_end (otherwise more_parameters _ c.in_default-starts.ensures.none) read_nothing))
+pub returns : goal.returns
+returns c =
+    let read = c.more.invariant.reads _ _ (whole more_parameters_end (otherwise more_parameters _ c.in_default-starts.ensures.none) read_nothing) in
+    record { ok = rw (sym (append-nil c.more.all.items)) read; shorter = takes tt read; err = tt }

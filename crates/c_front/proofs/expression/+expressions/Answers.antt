@@ -41,19 +41,12 @@ choice-returns-clause-ok t c = followed c.in_ok-first.ensures.ok c.in_ok-second.
 pub choice-returns-clause-shorter : goal.choice-returns-clause-shorter
 choice-returns-clause-shorter t c = omega (arith, c.in_ok-first.ensures.shorter, c.in_ok-second.ensures.shorter)
 
-pub closed_expression-returns-clause-ok : goal.closed_expression-returns-clause-ok
-closed_expression-returns-clause-ok t c = IfOk-weaker c.expect_after.result _ _
-    (λ r d. followed (IfOk-at_ok _ d.1 c.expression.ensures.ok) (mark d.2))
-    c.expect_after.ensures.ok
-
-pub closed_expression-returns-clause-shorter : goal.closed_expression-returns-clause-shorter
-closed_expression-returns-clause-shorter t c = IfOk-weaker c.expect_after.result _ _
-    (λ r d. ended-shorter _ _ _ r d c.expression.ensures.shorter) c.expect_after.ensures.ok
-
-pub closed_expression-returns-clause-err : goal.closed_expression-returns-clause-err
-closed_expression-returns-clause-err t c = IfErr-weaker c.expect_after.result _ _
-    (λ s d. unended _ _ _ _ _ _ d c.expression.ensures.ok c.expression.ensures.err)
-    c.expect_after.ensures.err
+pub closed_expression-returns : goal.closed_expression-returns
+closed_expression-returns t c = record {
+  ok = IfOk-weaker c.expect_after.result _ _ (λ r d. followed (IfOk-at_ok _ d.1 c.expression.ensures.ok) (mark d.2)) c.expect_after.ensures.ok;
+  shorter = IfOk-weaker c.expect_after.result _ _ (λ r d. ended-shorter _ _ _ r d c.expression.ensures.shorter) c.expect_after.ensures.ok;
+  err = IfErr-weaker c.expect_after.result _ _ (λ s d. unended _ _ _ _ _ _ d c.expression.ensures.ok c.expression.ensures.err) c.expect_after.ensures.err;
+}
 
 pub operands-returns-in_err-left-clause-err : goal.operands-returns-in_err-left-clause-err
 operands-returns-in_err-left-clause-err t c =

@@ -37,22 +37,12 @@ more-preserved c =
     (followed (mark c.in-Some-starts.ensures.some) (IfOk-at_ok _ r.1 c.expression-in-Some-starts.ensures.ok))
     (append_assoc (expressions_of c.more.all.items) _))
 
-pub returns-clause-err : goal.returns-clause-err
-returns-clause-err c = IfErr-weaker c.expect_after.result _ _
-    (λ s d. past (c.more.invariant.reads _ _ (whole more_arguments_end (otherwise more_arguments _ c.in_default-starts.ensures.none) read_nothing))
-    (unended _ _ [] _ (λ _. tt) s d read_nothing tt)) c.expect_after.ensures.err
-
-pub returns-clause-ok : goal.returns-clause-ok
-returns-clause-ok c = IfOk-weaker c.expect_after.result _ _
-    (λ r d. let h = plain-ended RightParen r d in rw (h.0, sym (append-nil (expressions_of c.more.all.items)))
-    (followed (c.more.invariant.reads _ _ (whole more_arguments_end (otherwise more_arguments _ c.in_default-starts.ensures.none) read_nothing)) (mark h.1)))
-    c.expect_after.ensures.ok
-
-pub returns-clause-shorter : goal.returns-clause-shorter
-returns-clause-shorter c = IfOk-weaker c.expect_after.result _ _
-    (λ r d. omega (
-      arith,
-      shorter (plain-ended RightParen r d).1,
-      reads-within
-          (c.more.invariant.reads _ _ (whole more_arguments_end (otherwise more_arguments _ c.in_default-starts.ensures.none) read_nothing)),
-    )) c.expect_after.ensures.ok
+pub returns : goal.returns
+returns c =
+    let read = c.more.invariant.reads _ _ (whole more_arguments_end (otherwise more_arguments _ c.in_default-starts.ensures.none) read_nothing) in record {
+      ok = IfOk-weaker c.expect_after.result _ _ (λ r d. let h = plain-ended RightParen r d in
+          rw (h.0, sym (append-nil (expressions_of c.more.all.items))) (followed read (mark h.1))) c.expect_after.ensures.ok;
+      shorter = IfOk-weaker c.expect_after.result _ _
+          (λ r d. omega (arith, shorter (plain-ended RightParen r d).1, reads-within read)) c.expect_after.ensures.ok;
+      err = IfErr-weaker c.expect_after.result _ _ (λ s d. past read (unended _ _ [] _ (λ _. tt) s d read_nothing tt)) c.expect_after.ensures.err;
+    }
