@@ -7,7 +7,7 @@ use Rattle.c_tokens.specs.declared.token.Mark.TheVariants.{LeftParen, Plus, Minu
 use Rattle.c_tree.specs.declared.tree.UnaryOp.{UnaryOp}
 use Rattle.c_tree.specs.declared.tree.BinaryOp.{BinaryOp}
 use Rattle.c_front.specs.Grammar.{the, Level, unary_expressions, above, operands, more_operands, T, N, Operator, Prefix, negate}
-use Rattle.c_front.specs.Grammar.{operands_rule, operands_end, operands_more, operand_unary, grouping_of, first, second}
+use Rattle.c_front.specs.Grammar.{operands_rule, operands_end, operands_more, operand_unary, grouping_of, first}
 use Rattle.c_front.specs.Reading.{read_nothing}
 use Rattle.c_front.specs.Choosing.{chosen_rule, EndsOperands}
 use Rattle.c_front.specs.declared.cursor.ParseStop.{ParseStop}
@@ -23,10 +23,6 @@ GoesOnOperands l ts middle left = GoesOn (operands (above l)) (more_operands l) 
 
 goes-on-first : {l : Level} {ts middle : List Token} {left : Expression} → IsRead (operands l) ts middle left → GoesOnOperands l ts middle left
 goes-on-first d = goes-more goes-first operands_rule refl (λ z. z) d (λ m. refl)
-
-operator-chosen : {l : Level} {o : BinaryOp} {ts after : List Token} (s : StartsWithOperator l o ts after) →
-    chosen_rule (more_operands l) (first ts) (second ts) ≡ Some (T (the s.0) ∷ N (operands l) ∷ N (more_operands l) ∷ [], operands_more s.1)
-operator-chosen s = rw s.2 (chosen-operator s.1)
 
 operands-end : {l : Level} {ts middle : List Token} {left : Expression} → GoesOnOperands l ts middle left → EndsOperands l (first middle)
     → IsRead (operands (above l)) ts middle left
@@ -89,7 +85,7 @@ climbs-more level k ts middle after next left right o g s h d e i = record {
   current = k;
   within = h;
   tighter = e;
-  goes = goes-more (at-operator level k o ts middle after left g s) (operands_more s.1) (operator-chosen s) (λ z. z) (followed (mark s.2) d) (λ m. refl);
+  goes = goes-more (at-operator level k o ts middle after left g s) (operands_more s.1) (rw s.2 (chosen-operator s.1)) (λ z. z) (followed (mark s.2) d) (λ m. refl);
   shorter = i;
 }
 
@@ -118,7 +114,7 @@ pub climbs-more-stuck : (level k : ℕ) (ts middle after : List Token) (left : E
     IsStuck (operands (level_of k)) after s → IsStuck (operands (level_of level)) ts s
 climbs-more-stuck level k ts middle after left o s g op h q =
     lifted level (suc k) ts s (omega (arith, h)) ((at-operator level k o ts middle after left g op).stuck s
-    (inside (operands_more op.1) (operator-chosen op) (λ z. z) (past (mark op.2) (within _ q))))
+    (inside (operands_more op.1) (rw op.2 (chosen-operator op.1)) (λ z. z) (past (mark op.2) (within _ q))))
 
 pub chosen-prefix : {o : UnaryOp} {t : Mark} (r : Prefix o t) (after : Option Token)
     → chosen_rule (operands unary_expressions) (Some (The t)) after ≡ Some (T (the t) ∷ N (operands unary_expressions) ∷ [], operand_unary r)

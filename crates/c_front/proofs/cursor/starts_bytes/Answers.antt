@@ -1,7 +1,4 @@
-use Rattle.std.proofs.Common.{rules, ap, ◌∷◌, ◌∙◌, List}
-use Rattle.c_tokens.specs.declared.token.Token.{Token}
-use Rattle.c_tokens.specs.declared.token.Token.TheVariants.{The}
-use Rattle.c_tokens.specs.declared.token.Mark.TheVariants.{Unsigned}
+use Rattle.std.proofs.Common.{rules}
 use Rattle.c_front.specs.Parsing.{StartsNoBytes}
 use Rattle.c_front.proofs.cursor.starts_bytes.Goals as goal
 
@@ -10,4 +7,4 @@ returns-in_err-after-clause-none c =
     let h : StartsNoBytes c.args.tokens.now = rw c.in_ok-rest.ensures.some (λ e. c.in_err-after.ensures.none) in search rules
 
 pub returns-clause-some : goal.returns-clause-some
-returns-clause-some c = c.in_ok-rest.ensures.some ∙ ap (λ (x : List Token). The Unsigned ∷ x) c.in_ok-after.ensures.some
+returns-clause-some c = cc (c.in_ok-rest.ensures.some, c.in_ok-after.ensures.some)
