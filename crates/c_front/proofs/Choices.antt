@@ -6,17 +6,17 @@ use Rattle.c_tokens.specs.declared.token.Token.TheVariants.{Name, The}
 use Rattle.c_tokens.specs.declared.token.Mark.{Mark}
 use Rattle.c_tokens.specs.declared.token.Mark.TheVariants.{Int, Unsigned, If, While, For, Semicolon, LeftBrace, RightBrace, Assign, Char, Void, Comma}
 use Rattle.c_tokens.specs.declared.token.Mark.TheVariants.{LeftBracket, Minus, LeftParen, RightParen, Question, Else}
-use Rattle.c_front.specs.Grammar.{PhraseTrees, item_declare, type_int, type_unsigned, Level, else_part, choice, declarations, items, operands, more_operands, unary_expressions, above, ors, operand_name, operands_rule, operands_end, expression_rule, choice_none, maybe_int, an_item, declared, a_statement, maybe_simple, maybe_expression, an_expression, N}
-use Rattle.c_front.specs.Grammar.{a_name, a_declaration, a_type, after_global, initial}
-use Rattle.c_front.specs.Grammar.{parameters, more_parameters, T, declaration_typed, first, second, the}
-use Rattle.c_front.specs.Grammar.{Nonterminal, simple, value, a_call, arguments, more_arguments, Symbol, Rule, simple_assign, value_plain, call_rule}
-use Rattle.c_front.specs.Grammar.{is_name, is_the}
+use Rattle.c_front.specs.Grammar.{PhraseTrees, item_declare, type_int, type_unsigned, Level, else_part, choice, declarations, items, operands}
+use Rattle.c_front.specs.Grammar.{more_operands, unary_expressions, above, ors, operand_name, operands_rule, operands_end, expression_rule, choice_none}
+use Rattle.c_front.specs.Grammar.{maybe_int, an_item, declared, a_statement, maybe_simple, maybe_expression, an_expression, N, a_name, a_declaration}
+use Rattle.c_front.specs.Grammar.{a_type, after_global, initial, parameters, more_parameters, T, declaration_typed, first, second, the, Nonterminal}
+use Rattle.c_front.specs.Grammar.{simple, value, a_call, arguments, more_arguments, Symbol, Rule, simple_assign, value_plain, call_rule, is_name}
+use Rattle.c_front.specs.Grammar.{is_the}
 use Rattle.c_front.specs.Choosing.{one_choice, StartsItem, chosen_rule, Peeks}
 use Rattle.c_front.specs.declared.cursor.ParseStop.{ParseStop}
 use Rattle.c_front.specs.declared.cursor.ParseStop.TheVariants.{Syntax, NoMemory}
 use Rattle.c_tree.specs.Tree.{Items, no_items, more_items, Declaration, name}
-use Rattle.c_front.specs.Parsing.{IsNameMissing, StartsUnnamed, IsStuck, StartsCall, StartsNoCall, are_stuck}
-use Rattle.c_front.specs.Parsing.{without_memory, IsEndedStuck}
+use Rattle.c_front.specs.Parsing.{IsNameMissing, StartsUnnamed, IsStuck, StartsCall, StartsNoCall, are_stuck, without_memory, IsEndedStuck}
 use Rattle.c_tree.specs.Shape.{declaration_of, declarations_of, expression_of, expressions_of, item_of, items_of}
 use Rattle.c_front.specs.Reading.{Reads, read_nothing, read_token, read_phrase, Stuck, stuck_past, stuck_inside}
 use Rattle.c_tree.specs.declared.tree.Expression.{Expression}

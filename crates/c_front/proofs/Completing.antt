@@ -4,13 +4,14 @@ use Rattle.c_tokens.specs.declared.token.IntegerType.TheVariants.{SignedInt}
 use Rattle.c_tokens.specs.declared.token.Token.{Token}
 use Rattle.c_tokens.specs.declared.token.Token.TheVariants.{Name, Constant, Jump, The}
 use Rattle.c_front.specs.Grammar.{Sort, a_name, a_constant, a_jump, the, Level, unary_expressions, above, ors, Nonterminal, a_program, declarations}
-use Rattle.c_front.specs.Grammar.{a_declaration, a_type, maybe_int, after_global, initial, function_rest, parameters, more_parameters, items, an_item, declared}
-use Rattle.c_front.specs.Grammar.{a_statement, else_part, maybe_simple, maybe_expression, simple, value, a_call, arguments, more_arguments, an_expression}
-use Rattle.c_front.specs.Grammar.{choice, operands, more_operands, Symbol, T, N, PhraseTrees, Rule, program_rule, declarations_end}
+use Rattle.c_front.specs.Grammar.{a_declaration, a_type, maybe_int, after_global, initial, function_rest, parameters, more_parameters, items, an_item}
+use Rattle.c_front.specs.Grammar.{declared, a_statement, else_part, maybe_simple, maybe_expression, simple, value, a_call, arguments, more_arguments}
+use Rattle.c_front.specs.Grammar.{an_expression, choice, operands, more_operands, Symbol, T, N, PhraseTrees, Rule, program_rule, declarations_end}
 use Rattle.c_front.specs.Grammar.{declaration_bytes, type_int, int_none, global_plain, initial_plain, function_rule, parameters_void}
-use Rattle.c_front.specs.Grammar.{more_parameters_end, items_end, item_statement, declared_none, statement_empty, else_some, simple_none, expression_none}
-use Rattle.c_front.specs.Grammar.{simple_call, value_call, call_rule, arguments_none, more_arguments_end, expression_rule, choice_none, operands_rule}
-use Rattle.c_front.specs.Grammar.{operands_end, operand_constant, first, MayPrecede, is_name, is_constant, is_jump, is_the, Derives, nothing, token, phrase}
+use Rattle.c_front.specs.Grammar.{more_parameters_end, items_end, item_statement, declared_none, statement_empty, else_some, simple_none}
+use Rattle.c_front.specs.Grammar.{expression_none, simple_call, value_call, call_rule, arguments_none, more_arguments_end, expression_rule, choice_none}
+use Rattle.c_front.specs.Grammar.{operands_rule, operands_end, operand_constant, first, MayPrecede, is_name, is_constant, is_jump, is_the, Derives}
+use Rattle.c_front.specs.Grammar.{nothing, token, phrase}
 use Rattle.c_front.proofs.Reading.{StuckAt, at_past, at_inside, precedes}
 
 -- tokens with which those so far are derived from the symbols

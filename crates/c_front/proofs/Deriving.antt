@@ -4,17 +4,16 @@ use Rattle.c_tokens.specs.declared.token.Identifier.{Identifier}
 use Rattle.c_tokens.specs.declared.token.Token.{Token}
 use Rattle.c_tokens.specs.declared.token.Token.TheVariants.{Name, The}
 use Rattle.c_tokens.specs.declared.token.Mark.{Mark}
-use Rattle.c_front.specs.Grammar.{a_name, the, maybe_int, a_program, Level, ors, Nonterminal, declarations, a_type, parameters}
-use Rattle.c_front.specs.Grammar.{more_parameters, items, an_item, declared, a_statement, maybe_simple, maybe_expression, simple, value, arguments}
-use Rattle.c_front.specs.Grammar.{more_arguments, an_expression, choice, operands, more_operands, Symbol, T, N, PhraseTrees, negate, Rule, program_rule}
-use Rattle.c_front.specs.Grammar.{declarations_end, declaration_typed, declaration_void, type_int, type_unsigned, int_none, int_some}
-use Rattle.c_front.specs.Grammar.{function_rule, more_parameters_end}
-use Rattle.c_front.specs.Grammar.{declaration_bytes, items_end, items_more, item_declare, item_statement, declared_none}
-use Rattle.c_front.specs.Grammar.{statement_simple, else_none, simple_none}
-use Rattle.c_front.specs.Grammar.{simple_some, expression_none, expression_some, simple_assign, simple_assign_at, simple_call, value_plain}
-use Rattle.c_front.specs.Grammar.{call_rule, arguments_none, arguments_some, more_arguments_end, more_arguments_more, expression_rule, choice_none, choice_some}
-use Rattle.c_front.specs.Grammar.{operands_rule, operands_end, operands_more, operand_constant, operand_name, operand_index, operand_unary, operand_paren}
-use Rattle.c_front.specs.Grammar.{first, second, MayPrecede, else_part, is_name, is_constant, is_jump, is_the, Derives, nothing, token, phrase, identity, complement, not}
+use Rattle.c_front.specs.Grammar.{a_name, the, maybe_int, a_program, Level, ors, Nonterminal, declarations, a_type, parameters, more_parameters, items}
+use Rattle.c_front.specs.Grammar.{an_item, declared, a_statement, maybe_simple, maybe_expression, simple, value, arguments, more_arguments}
+use Rattle.c_front.specs.Grammar.{an_expression, choice, operands, more_operands, Symbol, T, N, PhraseTrees, negate, Rule, program_rule}
+use Rattle.c_front.specs.Grammar.{declarations_end, declaration_typed, declaration_void, type_int, type_unsigned, int_none, int_some, function_rule}
+use Rattle.c_front.specs.Grammar.{more_parameters_end, declaration_bytes, items_end, items_more, item_declare, item_statement, declared_none}
+use Rattle.c_front.specs.Grammar.{statement_simple, else_none, simple_none, simple_some, expression_none, expression_some, simple_assign}
+use Rattle.c_front.specs.Grammar.{simple_assign_at, simple_call, value_plain, call_rule, arguments_none, arguments_some, more_arguments_end}
+use Rattle.c_front.specs.Grammar.{more_arguments_more, expression_rule, choice_none, choice_some, operands_rule, operands_end, operands_more}
+use Rattle.c_front.specs.Grammar.{operand_constant, operand_name, operand_index, operand_unary, operand_paren, first, second, MayPrecede, else_part}
+use Rattle.c_front.specs.Grammar.{is_name, is_constant, is_jump, is_the, Derives, nothing, token, phrase, identity, complement, not}
 use Rattle.c_front.specs.Reading.{Reads, read_nothing, read_token, read_phrase}
 use Rattle.c_front.specs.Choosing.{one_choice, chosen_rule}
 use Rattle.c_front.proofs.Choices.{otherwise, no-index, plain-chosen}

@@ -3,12 +3,11 @@ use Rattle.std.proofs.Common.{◌≡◌, ◌≢◌, ℕ, suc, [], ◌∷◌, Opt
 use Rattle.c_tokens.specs.declared.token.Token.{Token}
 use Rattle.c_tokens.specs.declared.token.Token.TheVariants.{The}
 use Rattle.c_tokens.specs.declared.token.Mark.{Mark}
-use Rattle.c_tokens.specs.declared.token.Mark.TheVariants.{LeftParen, LeftBracket, Question, Plus, Minus, Star, Slash, Percent, BarBar, AndAnd, Bar, Caret}
-use Rattle.c_tokens.specs.declared.token.Mark.TheVariants.{Ampersand, EqualEqual, BangEqual, LessSign, GreaterSign, LessEqual, GreaterEqual, LessLess}
-use Rattle.c_tokens.specs.declared.token.Mark.TheVariants.{GreaterGreater}
+use Rattle.c_tokens.specs.declared.token.Mark.TheVariants.{LeftParen, LeftBracket, Question, Plus, Minus, Star, Slash, Percent, BarBar, AndAnd, Bar}
+use Rattle.c_tokens.specs.declared.token.Mark.TheVariants.{Caret, Ampersand, EqualEqual, BangEqual, LessSign, GreaterSign, LessEqual, GreaterEqual}
+use Rattle.c_tokens.specs.declared.token.Mark.TheVariants.{LessLess, GreaterGreater}
 use Rattle.c_tree.specs.declared.tree.BinaryOp.{BinaryOp}
-use Rattle.c_front.specs.Grammar.{the, Level, unary_expressions, above, operands, more_operands, T, N, Operator, multiply}
-use Rattle.c_front.specs.Grammar.{operands_end, operands_more}
+use Rattle.c_front.specs.Grammar.{the, Level, unary_expressions, above, operands, more_operands, T, N, Operator, multiply, operands_end, operands_more}
 use Rattle.c_front.specs.Choosing.{operator_at, more_choice, one_choice, EndsOperands}
 
 -- an index or an argument binds tightest, then each level of operators, then a condition, then all that ends an expression

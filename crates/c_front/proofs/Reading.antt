@@ -3,10 +3,10 @@ use Rattle.std.proofs.Common.{◌<◌, ◌≤◌, arith, length, ◌≡◌, ◌�
 use Rattle.c_tokens.specs.declared.token.Token.{Token}
 use Rattle.c_tokens.specs.declared.token.Token.TheVariants.{Name, Jump, The, Constant}
 use Rattle.c_tokens.specs.declared.token.Mark.TheVariants.{Unsigned, Else, Minus}
-use Rattle.c_front.specs.Grammar.{parameters, parameters_some, Sort, a_name, a_constant, a_jump, the, unary_expressions, Nonterminal, a_declaration, a_type, a_statement, else_part}
-use Rattle.c_front.specs.Grammar.{simple, value, a_call, an_expression, operands, Symbol, T, N, SortTree, PhraseTrees, Rule, declaration_typed}
-use Rattle.c_front.specs.Grammar.{else_none, simple_call, value_plain, value_call, expression_rule, operands_rule}
-use Rattle.c_front.specs.Grammar.{tree_of, first, second, MayPrecede, IsToken, is_name, Derives, nothing, token, phrase}
+use Rattle.c_front.specs.Grammar.{parameters, parameters_some, Sort, a_name, a_constant, a_jump, the, unary_expressions, Nonterminal, a_declaration}
+use Rattle.c_front.specs.Grammar.{a_type, a_statement, else_part, simple, value, a_call, an_expression, operands, Symbol, T, N, SortTree, PhraseTrees}
+use Rattle.c_front.specs.Grammar.{Rule, declaration_typed, else_none, simple_call, value_plain, value_call, expression_rule, operands_rule, tree_of}
+use Rattle.c_front.specs.Grammar.{first, second, MayPrecede, IsToken, is_name, Derives, nothing, token, phrase}
 use Rattle.c_front.specs.Reading.{Reads, read_nothing, read_token, read_phrase, Stuck, stuck_extra, stuck_token, stuck_past, stuck_phrase, stuck_inside}
 use Rattle.c_front.specs.Choosing.{Choice, one_choice, chosen_rule, Peeks}
 

@@ -4,8 +4,8 @@ use Rattle.std.specs.Borrow.{Bor}
 use Rattle.c_tokens.specs.declared.token.Token.{Token}
 use Rattle.c_tokens.specs.declared.token.Token.TheVariants.{The}
 use Rattle.c_tokens.specs.declared.token.Mark.{Mark}
-use Rattle.c_front.specs.Grammar.{Sort, a_name, a_constant, the, Nonterminal, Symbol, T, N, PhraseTree, SortTree, PhraseTrees, Rule, first, second, IsToken}
-use Rattle.c_front.specs.Grammar.{tree_of, is_the}
+use Rattle.c_front.specs.Grammar.{Sort, a_name, a_constant, the, Nonterminal, Symbol, T, N, PhraseTree, SortTree, PhraseTrees, Rule, first, second}
+use Rattle.c_front.specs.Grammar.{IsToken, tree_of, is_the}
 use Rattle.c_front.specs.Reading.{Reads, read_nothing, read_token, read_phrase, stuck_token, stuck_phrase, stuck_inside}
 use Rattle.c_front.specs.Choosing.{chosen_rule, Peeks}
 use Rattle.c_front.specs.declared.cursor.ParseStop.{ParseStop}

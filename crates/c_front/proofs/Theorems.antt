@@ -1,8 +1,7 @@
 -- Programs: at most one for the tokens, and the first wrong token.
 use Rattle.std.proofs.Math.Seq.{take-append_seam, take-append-add}
 use Rattle.std.proofs.lemmas.List.{take-append-drop, take-take}
-use Rattle.std.proofs.Common.{drop, append_assoc, ◌≡◌, ◌+◌, ◌<◌, ◌≤◌, ℕ, List, [], ◌∷◌, ◌++◌, take, length, refl, ap, arith}
-use Rattle.std.proofs.Common.{length-append, ◌-◌}
+use Rattle.std.proofs.Common.{drop, append_assoc, ◌≡◌, ◌+◌, ◌<◌, ◌≤◌, ℕ, List, [], ◌∷◌, ◌++◌, take, length, refl, ap, arith, length-append, ◌-◌}
 use Rattle.c_tokens.specs.declared.token.Token.{Token}
 use Rattle.std.specs.Borrow.{Bor}
 use Rattle.c_front.specs.declared.cursor.ParseStop.TheVariants.{Syntax}

@@ -1,10 +1,11 @@
 use Rattle.std.proofs.Common.{arith, refl, sym}
-use Rattle.c_front.specs.Grammar.{an_item, else_part, is_the, is_name, items_end, items_more, item_declare, item_statement, statement_empty, statement_block, statement_if}
-use Rattle.c_front.specs.Grammar.{statement_while, statement_for, statement_simple, else_none, else_some}
+use Rattle.c_front.specs.Grammar.{an_item, else_part, is_the, is_name, items_end, items_more, item_declare, item_statement, statement_empty}
+use Rattle.c_front.specs.Grammar.{statement_block, statement_if, statement_while, statement_for, statement_simple, else_none, else_some}
 use Rattle.c_tree.specs.Shape.{items_of}
 use Rattle.std.proofs.lemmas.Result.{IfOk-at_ok, IfOk-weaker, IfErr-weaker}
 use Rattle.c_front.proofs.Ends.{failed, stops, unended}
-use Rattle.c_front.proofs.Steps.{at-first, at-mark, shorter, followed, one, mark, whole, taken, past, within, inside, begun, no-phrase, name-missing, goes-more}
+use Rattle.c_front.proofs.Steps.{at-first, at-mark, shorter, followed, one, mark, whole, taken, past, within, inside, begun, no-phrase, name-missing}
+use Rattle.c_front.proofs.Steps.{goes-more}
 use Rattle.c_tree.proofs.Shapes.{block-is}
 use Rattle.c_front.proofs.Choices.{items_of-append, no-mark, after-none, after-after, otherwise, type-item}
 use Rattle.c_front.specs.Reading.{read_nothing}
