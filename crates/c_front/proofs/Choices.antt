@@ -146,7 +146,8 @@ plain-chosen _ _ h = refl
 
 -- calls
 pub call-stuck : {n : Nonterminal} {ts rest : List Token} {x : Identifier} {s : ParseStop} (r : Rule n (N a_call ∷ []))
-    → chosen_rule n (Some (Name x)) (Some (The LeftParen)) ≡ Some (N a_call ∷ [], r) → StartsCall ts x rest → IsEndedStuck arguments RightParen rest s → IsStuck n ts s
+    → chosen_rule n (Some (Name x)) (Some (The LeftParen)) ≡ Some (N a_call ∷ [], r) → StartsCall ts x rest
+    → IsEndedStuck arguments RightParen rest s → IsStuck n ts s
 call-stuck {rest = rest} {x = x} r c e (are_stuck {rest = end} h) = are_stuck (λ symbols.
     let a : length end.now < length (Name x ∷ The LeftParen ∷ rest) = omega (arith, stuck-within (h symbols)) in
     rw e (stuck_inside r c (λ z. a) (stuck_inside call_rule refl (λ z. absurd z) (stuck_past is_name (stuck_past is_the (h symbols))))))

@@ -85,7 +85,8 @@ climbs-more level k ts middle after next left right o g s h d e i = record {
   current = k;
   within = h;
   tighter = e;
-  goes = goes-more (at-operator level k o ts middle after left g s) (operands_more s.1) (rw s.2 (chosen-operator s.1)) (λ z. z) (followed (mark s.2) d) (λ m. refl);
+  goes = goes-more (at-operator level k o ts middle after left g s) (operands_more s.1) (rw s.2 (chosen-operator s.1)) (λ z. z)
+      (followed (mark s.2) d) (λ m. refl);
   shorter = i;
 }
 

@@ -41,7 +41,8 @@ returns-in-Some-starts_bytes-clause-err c =
 pub returns-in_default-integer_type-clause-err : goal.returns-in_default-integer_type-clause-err
 returns-in_default-integer_type-clause-err c =
     let k = c.in_default-integer_type.ensures.none in
-    inside declaration_typed (chosen-typed _ _ c.in_default.ensures.none (λ e. absurd (k.1 e))) (no-unsigned _ k.1) (no-phrase refl (λ after. otherwise a_type _ k))
+    inside declaration_typed (chosen-typed _ _ c.in_default.ensures.none (λ e. absurd (k.1 e))) (no-unsigned _ k.1)
+    (no-phrase refl (λ after. otherwise a_type _ k))
 
 pub returns-in_err-name-3-clause-err : goal.returns-in_err-name-3-clause-err
 returns-in_err-name-3-clause-err c =

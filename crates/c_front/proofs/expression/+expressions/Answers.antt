@@ -74,7 +74,8 @@ operands-returns-in_err-new-clause-err t c = failed _ c.from_residual-in_err-new
 pub operands-climbing-preserved : goal.operands-climbing-preserved
 operands-climbing-preserved t c =
     rw c.in_ok-new.ensures.ok (climbs-more _ _ _ _ _ _ _ _ _ c.climbing.invariant c.in-Some.ensures.some c.if-found-level.false
-    c.in_ok-right.ensures.ok c.in_ok-right.ensures.ends (omega (arith, shorter c.in-Some.ensures.some.2, c.climbing.invariant.shorter, c.in_ok-right.ensures.shorter)))
+    c.in_ok-right.ensures.ok c.in_ok-right.ensures.ends
+    (omega (arith, shorter c.in-Some.ensures.some.2, c.climbing.invariant.shorter, c.in_ok-right.ensures.shorter)))
 
 pub operand-returns-in_default-clause-err : goal.operand-returns-in_default-clause-err
 operand-returns-in_default-clause-err t c = no-phrase c.in_default.ensures.none (λ after. refl)

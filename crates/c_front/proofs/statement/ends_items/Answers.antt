@@ -7,4 +7,5 @@ pub returns-in_default-clause-more : goal.returns-in_default-clause-more
 returns-in_default-clause-more c = λ h. rw c.in-Some.ensures.some (item-follows _ (c.in_default.not-The _))
 
 pub returns-in_default-mark-clause-more : goal.returns-in_default-mark-clause-more
-returns-in_default-mark-clause-more c = λ h. rw (at-first c.in-Some.ensures.some c.in-The.is) (item-follows (The c.in-The.mark) (λ e. c.in_default-mark.not-RightBrace (cc)))
+returns-in_default-mark-clause-more c = λ h. rw (at-first c.in-Some.ensures.some c.in-The.is)
+    (item-follows (The c.in-The.mark) (λ e. c.in_default-mark.not-RightBrace (cc)))

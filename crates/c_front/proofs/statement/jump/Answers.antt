@@ -17,7 +17,8 @@ returns-in-Break-clause-ok c = IfOk-weaker c.expect_after.result _ _
 
 pub returns-in-Continue-clause-err : goal.returns-in-Continue-clause-err
 returns-in-Continue-clause-err c = IfErr-weaker c.expect_after-in-Continue.result _ _
-    (λ s d. rw c.in-Continue.is (begun statement_continue is_jump refl refl (unended _ _ [] _ (λ _. tt) s d read_nothing tt))) c.expect_after-in-Continue.ensures.err
+    (λ s d. rw c.in-Continue.is (begun statement_continue is_jump refl refl (unended _ _ [] _ (λ _. tt) s d read_nothing tt)))
+    c.expect_after-in-Continue.ensures.err
 
 pub returns-in-Continue-clause-ok : goal.returns-in-Continue-clause-ok
 returns-in-Continue-clause-ok c = IfOk-weaker c.expect_after-in-Continue.result _ _
