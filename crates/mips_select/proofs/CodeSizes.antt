@@ -134,18 +134,11 @@ const_few o w = put_few o (word_source w)
 inst_few : (globals : List RGlobal) (starts : ℕ → ℕ) (at : Locations) (facts : Facts) (i : RInst) → length (inst_code globals starts at facts i) ≤ 8
 inst_few globals starts at facts (Const d w) = const_few (at d) (wrap w)
 inst_few globals starts at facts (Move d a) = put_few (at d) (operand at facts a)
-inst_few globals starts at facts (Bin op d a b) = omega (arith, length-append {A = Plain}, op_few, finish_few)
-inst_few globals starts at facts (Load d a i) = omega (arith, length-append {A = Plain}, element_few, finish_few)
-inst_few globals starts at facts (Store a i b) = omega (arith, length-append {A = Plain}, element_few, fetch_few)
+inst_few globals starts at facts _ = omega (arith, length-append {A = Plain}, op_few, element_few, fetch_few, finish_few)
 
 form_few : (f : Form) (op : Op) (x y : Operand) → length (code_by_form f op x y) ≤ 8
 form_few (Known b) op x y = omega arith
-form_few (OnPair test) op x y = omega (arith, length-append {A = Plain}, fetch_few)
-form_few (OnLeft test) op x y = omega (arith, length-append {A = Plain}, fetch_few)
-form_few (OnRight test) op x y = omega (arith, length-append {A = Plain}, fetch_few)
-form_few ByResult op x y = omega (arith, op_few op 1 3 x y)
-form_few ByOpposite op x y = omega (arith, op_few (opposite_op op) 1 3 y x)
-form_few InResult op x y = omega (arith, op_few op 1 2 x y)
+form_few _ op x y = omega (arith, length-append {A = Plain}, fetch_few, op_few)
 
 next_few : (c : Context) (facts : Facts) (o : Option Comparison) (i : RInst) → length (next_code c facts o i) ≤ 8
 next_few c facts None i = inst_few c.globals c.starts c.at facts i
@@ -214,14 +207,9 @@ behind_most _ = 0
 
 pub exit_few : (leaf : Bool) (f : Frame) (facts : Facts) (last : Last) (x : RExit) → length f.saved.items ≤ 8 → HasFewArguments x
     → length (exit_code leaf f facts last x) + behind_most x ≤ exit_most leaf
-exit_few leaf f facts last (Goto b) eight few = omega arith
-exit_few leaf f facts last (Branch c t e) eight few =
-    omega (arith, branch_few (tested last.comparison c) (known_in facts c) (last_operand (locations f) facts last.fresh c))
-exit_few leaf f facts last (Call g xs d next) eight few = omega (arith, arguments_few (locations f) facts 4 xs.items, few)
 exit_few leaf f facts last (Return None) eight few = omega (arith, epilogue_few leaf f eight)
-exit_few leaf f facts last (Return (Some x)) eight few =
-    omega (arith, return_few, epilogue_few leaf f eight, length-append {A = Plain})
-exit_few leaf f facts last (Out x next) eight few = omega (arith, carry_few 4 (last_operand (locations f) facts last.fresh x))
+exit_few leaf f facts last _ eight few =
+    omega (arith, branch_few, arguments_few, few, return_few, epilogue_few leaf f eight, carry_few, length-append {A = Plain})
 
 pub result_few : (at : Locations) (o : Option ℕ) → length (result_code at o) ≤ 2
 result_few at None = omega arith
