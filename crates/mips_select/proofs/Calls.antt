@@ -129,9 +129,6 @@ shifted s n p z none some = cond_both (nat_eq n 0) [] (Imm Addiu 29 29 z ∷ [])
 lowered : (s : State) (n : ℕ) → n ≤ FRAME_BYTES → n ≤ s.regs 29 → s.regs 29 ≤ stack_end → Shifted (stack_step Save n) s (s.regs 29 - n)
 lowered s n few le up = shifted s n (s.regs 29 - n) (negsuc (n - 1)) (λ e. omega (arith, e)) (λ some. omega (arith, some, few, le, up))
 
-raised : (s : State) (n : ℕ) → n ≤ FRAME_BYTES → s.regs 29 + n ≤ stack_end → Shifted (stack_step Restore n) s (s.regs 29 + n)
-raised s n few up = shifted s n (s.regs 29 + n) (pos n) (λ e. omega (arith, e)) (λ some. omega (arith, few, up))
-
 module _ {most total : ℕ} {gs : List RGlobal} {starts : ℕ → ℕ} (small : most ≤ FRAME_BYTES) (leaf : Bool) {f : Frame} (ok : IsFrame most f)
     {r : Places} {g : Arrays} {fs : List Stored} {s : State} (h : Stands most total gs starts r g fs s) where
   -- what a prologue leaves, before the parameters go to their homes
@@ -228,7 +225,8 @@ module _ {most total : ℕ} {gs : List RGlobal} {starts : ℕ → ℕ} (small : 
       let other : (q : ℕ) → (q < 16) ⊎ (24 ≤ q) → q ≢ 31 → back.regs q ≡ s.regs q = λ q out ne.
       back.others q (kept_in ok leaf q false (saved_other ok q out) ne) in
       let pointer1 : back.regs 29 ≡ s.regs 29 = other 29 (inr (omega arith)) (omega arith) in
-      let lift = raised s1 size (omega (arith, bytes_fit ok leaf, small)) (omega (arith, pointer1, up)) in
+      let fits = bytes_fit ok leaf in
+      let lift = shifted s1 size (s1.regs 29 + size) (pos size) (λ e. omega (arith, e)) (λ some. omega (arith, fits, small, pointer1, up)) in
       let to : State = record s1 { regs = lift.regs } in
       let pointer : lift.regs 29 ≡ s.regs 29 + size = omega (arith, lift.pointer, pointer1) in
       let size4 : size % 4 ≡ 0 = omega arith in

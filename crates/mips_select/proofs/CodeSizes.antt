@@ -1,38 +1,31 @@
 -- At most how many machine instructions stand for an instruction, an exit and the beginning of a function.
 use Rattle.std.proofs.Common.{◌≡◌, ℕ, zero, suc, ◌+◌, ◌*◌, ◌≤◌, Bool, true, false, List, [], ◌∷◌, length, length-append, Option, Some, None, arith, refl}
 use Rattle.std.specs.Prelude.{slice_get}
-use Rattle.words.specs.Words.{wrap}
 use Rattle.words.specs.declared.width.Width.{Width}
-use Rattle.words.specs.declared.width.Width.TheVariants.{Word, Byte}
 use Rattle.mips_isa.specs.declared.inst.Plain.{Plain}
 use Rattle.rtl.specs.declared.operator.Op.{Op}
-use Rattle.rtl.specs.declared.operator.Op.TheVariants as ops
 use Rattle.rtl.specs.declared.instruction.RInst.{RInst}
-use Rattle.rtl.specs.declared.instruction.RInst.TheVariants.{Const, Move, Bin, Load, Store}
 use Rattle.rtl.specs.declared.instruction.RExit.{RExit}
-use Rattle.rtl.specs.declared.instruction.RExit.TheVariants.{Goto, Branch, Call, Return, Out}
+use Rattle.rtl.specs.declared.instruction.RExit.TheVariants.{Call, Return}
 use Rattle.rtl.specs.declared.block.RGlobal.{RGlobal}
 use Rattle.mips_homes.specs.declared.homed.Home.{Home}
 use Rattle.mips_homes.specs.declared.homed.Frame.{Frame}
-use Rattle.mips_homes.specs.declared.homed.Home.TheVariants.{Reg, Slot, Copied}
+use Rattle.mips_homes.specs.declared.homed.Home.TheVariants.{Reg, Copied}
 use Rattle.mips_emit.specs.Frames.{HaveNoCopies, link_words}
 use Rattle.mips_emit.specs.declared.location.Source.{Source}
-use Rattle.mips_emit.specs.declared.location.Source.TheVariants.{Word as Known, From}
+use Rattle.mips_emit.specs.declared.location.Source.TheVariants.{From}
 use Rattle.mips_emit.specs.declared.comparison.Asked.{Asked}
 use Rattle.mips_emit.specs.declared.comparison.Comparison.{Comparison}
-use Rattle.mips_emit.specs.declared.comparison.Form.{Form}
-use Rattle.mips_emit.specs.declared.comparison.Form.TheVariants.{Known, OnPair, OnLeft, OnRight, ByResult, ByOpposite, InResult}
 use Rattle.mips_emit.specs.declared.facts.Last.{Last}
-use Rattle.mips_emit.specs.Locations.{Locations, Facts, locations, known_in, learned, operand, last_operand, inner_of, word_source}
+use Rattle.mips_emit.specs.Locations.{Locations, Facts, locations, learned, operand}
 use Rattle.mips_emit.specs.declared.element.Reach.{Reach}
-use Rattle.mips_emit.specs.declared.element.Reach.TheVariants.{ByScratch, ByNew}
 use Rattle.mips_emit.specs.Elements.{scaled, base_sum}
-use Rattle.mips_emit.specs.Code.{li, fetch, operand_register, bring, carry, finish, put_at, arrive, operation, code_by_less}
+use Rattle.mips_emit.specs.Code.{fetch, bring, carry, finish, put_at, arrive, operation}
 use Rattle.mips_emit.specs.declared.operation.Operand.{Operand}
-use Rattle.mips_emit.specs.Code.{Context, code_by_left, code_by_right, code_by_word, multiple_of, code_by_multiple, op_code, element_code}
-use Rattle.mips_emit.specs.Code.{immediate_of, turned_immediate_of, turned_less_of, const_code, inst_code, arguments_code}
-use Rattle.mips_emit.specs.Comparisons.{code_by_form, opposite_op, next_code, insts_code, branch_code}
-use Rattle.mips_emit.specs.Comparisons.{tested, return_code}
+use Rattle.mips_emit.specs.Code.{Context, op_code, element_code}
+use Rattle.mips_emit.specs.Code.{const_code, inst_code, arguments_code}
+use Rattle.mips_emit.specs.Comparisons.{next_code, insts_code, branch_code}
+use Rattle.mips_emit.specs.Comparisons.{return_code}
 use Rattle.mips_select.specs.declared.prologue.Direction.{Direction}
 use Rattle.mips_select.specs.Code.{frame_words, frame_link, stack_step}
 use Rattle.mips_select.specs.Code.{parameters_code, prologue, epilogue, exit_code, result_code}
@@ -40,40 +33,27 @@ use Rattle.mips_select.specs.Emittable.{HasFewArguments}
 
 -- ---- operands and results
 
-li_few : (t w : ℕ) → length (li t w) ≤ 2
-li_few t w = grind arith
-
 fetch_few : (t : ℕ) (x : Source) → length (fetch t x) ≤ 2
-fetch_few t (Known w) = li_few t w
-fetch_few t (From (Reg r)) = omega arith
-fetch_few t _ = omega arith
+fetch_few t x = grind arith
 
 bring_few : (t : ℕ) (x : Source) → length (bring t x) ≤ 2
-bring_few t (Known w) = li_few t w
-bring_few t (From (Reg r)) = omega arith
-bring_few t _ = omega arith
+bring_few t x = grind arith
 
 carry_few : (t : ℕ) (x : Source) → length (carry t x) ≤ 2
 carry_few t x = grind (arith, bring_few t x)
 
 finish_few : (o : Option Home) → length (finish o) ≤ 1
-finish_few (Some (Reg r)) = omega arith
-finish_few _ = omega arith
+finish_few o = grind arith
 
 put_few : (o : Option Home) (x : Source) → length (put_at o x) ≤ 8
-put_few None x = omega arith
-put_few (Some (Reg r)) x = omega (arith, bring_few r x)
-put_few (Some (Copied r k)) x = omega (arith, length-append {A = Plain}, bring_few r x)
-put_few (Some (Slot k)) x = omega (arith, length-append {A = Plain}, fetch_few (inner_of (Some (Slot k))) x)
+put_few o x = grind (arith, length-append {A = Plain}, bring_few, fetch_few)
 
 moved_few : (r t : ℕ) → length (carry r (From (Reg t))) ≤ 1
 moved_few r t = grind arith
 
 -- two, of which the second is the store of a copy
 arrive_few : (o : Option Home) (t : ℕ) → length (arrive o t) ≤ 2
-arrive_few (Some (Reg r)) t = omega (arith, moved_few r t)
-arrive_few (Some (Copied r k)) t = omega (arith, length-append {A = Plain}, moved_few r t)
-arrive_few _ t = omega arith
+arrive_few o t = grind (arith, length-append {A = Plain}, moved_few)
 
 -- and one where no slot has a copy
 arrive_one : (hs : List Home) (x t : ℕ) → HaveNoCopies hs → length (arrive (slice_get hs x) t) ≤ 1
@@ -87,62 +67,30 @@ arrive_one hs x t none = by (slice_get hs x) refl
 -- ---- operators
 
 operation_few : (op : Op) (d a b : ℕ) → length (operation op d a b) ≤ 2
-operation_few ops.Add d a b = omega arith
-operation_few _ d a b = omega arith
-
-less_few : (op : Op) (t d : ℕ) (less : Option Plain) (x y : Source) → length (code_by_less op t d less x y) ≤ 6
-less_few op t d None x y = omega (arith, length-append {A = Plain}, fetch_few, operation_few)
-less_few op t d (Some i) x y = omega (arith, length-append {A = Plain}, fetch_few)
-
-left_few : (op : Op) (t d : ℕ) (left : Option Plain) (x y : Operand) → length (code_by_left op t d left x y) ≤ 6
-left_few op t d None x y = less_few op t d (turned_less_of op d (operand_register 2 y.source) x.known) x.source y.source
-left_few op t d (Some i) x y = omega (arith, length-append {A = Plain}, fetch_few)
-
-right_few : (op : Op) (t d : ℕ) (right : Option Plain) (x y : Operand) → length (code_by_right op t d right x y) ≤ 6
-right_few op t d None x y = left_few op t d (turned_immediate_of op d (operand_register 2 y.source) x.known) x y
-right_few op t d (Some i) x y = omega (arith, length-append {A = Plain}, fetch_few)
-
-multiple_few : (t d : ℕ) (multiple : Option _) (x : Source) (other : List Plain) → length other ≤ 6
-    → length (code_by_multiple t d multiple x other) ≤ 6
-multiple_few t d None x other le = le
-multiple_few t d (Some m) x other le = omega (arith, length-append {A = Plain}, fetch_few)
+operation_few op d a b = grind arith
 
 op_few : (op : Op) (t d : ℕ) (x y : Operand) → length (op_code op t d x y) ≤ 6
-op_few op t d x y =
-    multiple_few t d (multiple_of op y.known) x.source (code_by_multiple t d (multiple_of op x.known) y.source (code_by_word op t d x y))
-    (multiple_few t d (multiple_of op x.known) y.source (code_by_word op t d x y)
-    (right_few op t d (immediate_of op d (operand_register t x.source) y.known) x y))
+op_few op t d x y = grind (arith, length-append {A = Plain}, fetch_few, operation_few)
 
 -- ---- instructions
 
 scaled_few : (w : Width) (t q : ℕ) → length (scaled w t q) ≤ 1
-scaled_few Word t q = omega arith
-scaled_few Byte t q = omega arith
+scaled_few w t q = grind arith
 
 sum_few : (t start q : ℕ) → length (base_sum t start q) ≤ 2
 sum_few t start q = grind arith
 
 element_few : (w : Width) (start : ℕ) (by : Reach) (x : Source) → length (element_code w start by x) ≤ 5
-element_few w start ByScratch x = omega (arith, length-append {A = Plain}, fetch_few, scaled_few, sum_few)
-element_few w start (ByNew q c) x = omega (arith, length-append {A = Plain}, scaled_few, sum_few)
-element_few w start _ x = omega arith
+element_few w start by x = grind (arith, length-append {A = Plain}, fetch_few, scaled_few, sum_few)
 
 const_few : (o : Option Home) (w : ℕ) → length (const_code o w) ≤ 8
-const_few (Some (Reg r)) w = grind (arith, bring_few r (word_source w))
-const_few o w = put_few o (word_source w)
+const_few o w = grind (arith, bring_few, put_few)
 
 inst_few : (globals : List RGlobal) (starts : ℕ → ℕ) (at : Locations) (facts : Facts) (i : RInst) → length (inst_code globals starts at facts i) ≤ 8
-inst_few globals starts at facts (Const d w) = const_few (at d) (wrap w)
-inst_few globals starts at facts (Move d a) = put_few (at d) (operand at facts a)
-inst_few globals starts at facts _ = omega (arith, length-append {A = Plain}, op_few, element_few, fetch_few, finish_few)
-
-form_few : (f : Form) (op : Op) (x y : Operand) → length (code_by_form f op x y) ≤ 8
-form_few (Known b) op x y = omega arith
-form_few _ op x y = omega (arith, length-append {A = Plain}, fetch_few, op_few)
+inst_few globals starts at facts i = grind (arith, length-append {A = Plain}, const_few, put_few, op_few, finish_few, element_few, fetch_few)
 
 next_few : (c : Context) (facts : Facts) (o : Option Comparison) (i : RInst) → length (next_code c facts o i) ≤ 8
-next_few c facts None i = inst_few c.globals c.starts c.at facts i
-next_few c facts (Some m) i = form_few m.form m.op m.left m.right
+next_few c facts o i = grind (arith, length-append {A = Plain}, inst_few, op_few, fetch_few)
 
 pub insts_few : (c : Context) (asked : Asked) (facts : Facts) (is : List RInst) (behind : List Plain)
     → length (insts_code c asked facts is behind) ≤ 8 * length is + length behind
@@ -159,8 +107,7 @@ step_few : (direction : Direction) (n : ℕ) → length (stack_step direction n)
 step_few direction n = grind arith
 
 link_length : (direction : Direction) (leaf : Bool) (f : Frame) → length (frame_link direction leaf f) ≡ link_words leaf
-link_length direction true f = refl
-link_length direction false f = refl
+link_length direction leaf f = grind arith
 
 parameters_few : (most : ℕ) (at : Locations) (t x n : ℕ) → ((y u : ℕ) → length (arrive (at y) u) ≤ most) → length (parameters_code at t x n) ≤ most * n
 parameters_few most at t x zero each = omega arith
@@ -193,12 +140,10 @@ arguments_few at facts t [] = omega arith
 arguments_few at facts t (x ∷ xs) = omega (arith, length-append {A = Plain}, carry_few t (operand at facts x), arguments_few at facts (suc t) xs)
 
 branch_few : (o : Option Comparison) (known : Option ℕ) (x : Source) → length (branch_code o known x) ≤ 2
-branch_few None None x = fetch_few 1 x
-branch_few _ _ x = omega arith
+branch_few o known x = grind (arith, fetch_few)
 
 return_few : (b : Bool) (x : Source) → length (return_code b x) ≤ 2
-return_few true x = omega arith
-return_few false x = carry_few 2 x
+return_few b x = grind (arith, carry_few)
 
 -- what stands behind the block of a call
 abbrev pub behind_most : RExit → ℕ
@@ -209,8 +154,7 @@ pub exit_few : (leaf : Bool) (f : Frame) (facts : Facts) (last : Last) (x : RExi
     → length (exit_code leaf f facts last x) + behind_most x ≤ exit_most leaf
 exit_few leaf f facts last (Return None) eight few = omega (arith, epilogue_few leaf f eight)
 exit_few leaf f facts last _ eight few =
-    omega (arith, branch_few, arguments_few, few, return_few, epilogue_few leaf f eight, carry_few, length-append {A = Plain})
+    omega (arith, branch_few, arguments_few, return_few, epilogue_few leaf f eight, carry_few, length-append {A = Plain})
 
 pub result_few : (at : Locations) (o : Option ℕ) → length (result_code at o) ≤ 2
-result_few at None = omega arith
-result_few at (Some d) = arrive_few (at d) 2
+result_few at o = grind (arith, arrive_few)

@@ -1,12 +1,10 @@
 -- At most how many blocks the unit of a program has.
-use Rattle.std.proofs.Common.{◌≡◌, ℕ, suc, ◌+◌, ◌*◌, ◌<◌, ◌≤◌, Bool, true, false, List, [], ◌∷◌, ◌++◌, length, length-append, Option, Some, None}
+use Rattle.std.proofs.Common.{◌≡◌, ℕ, suc, ◌+◌, ◌*◌, ◌<◌, ◌≤◌, Bool, false, List, [], ◌∷◌, ◌++◌, length, length-append, Option, Some, None}
 use Rattle.std.proofs.Common.{refl, arith}
 use Rattle.std.specs.Prelude.{slice_get}
-use Rattle.std.proofs.lemmas.Bool.{cond_both}
 use Rattle.std.proofs.lemmas.Bool.Decides.{nat_tests}
 use Rattle.mblock.specs.Parts.{BlockParts}
 use Rattle.rtl.specs.declared.instruction.RExit.{RExit}
-use Rattle.rtl.specs.declared.instruction.RExit.TheVariants.{Call}
 use Rattle.rtl.specs.declared.block.RBlock.{RBlock}
 use Rattle.rtl.specs.declared.block.RFunc.{RFunc}
 use Rattle.mips_homes.specs.declared.homed.Frame.{Frame}
@@ -16,14 +14,14 @@ use Rattle.mips_emit.specs.Comparisons.{last_after, no_last}
 use Rattle.mips_select.specs.Split.{first_piece_of, total}
 use Rattle.mips_select.proofs.Places.{length-split_from}
 use Rattle.mips_select.specs.declared.heads.Naming.{Naming}
-use Rattle.mips_select.specs.declared.heads.Naming.TheVariants.{Unnamed, Called}
-use Rattle.mips_select.specs.Code.{context_in, asked_of, exit_code, own_block, head_code, after_block}
+use Rattle.mips_select.specs.declared.heads.Naming.TheVariants.{Called}
+use Rattle.mips_select.specs.Code.{context_in, asked_of, exit_code, head_code}
 use Rattle.mips_select.specs.Plans.{Linking, Planning}
 use Rattle.mips_select.specs.Emittable.{HasFewArguments}
-use Rattle.mips_select.specs.Heads.{head_at, heads_of, is_leaf, namings, unnamed, resumes, count, lead_in}
+use Rattle.mips_select.specs.Heads.{head_at, heads_of, is_leaf, namings, unnamed, count, lead_in}
 use Rattle.mips_select.specs.Laws.{EachUnitIsCounted, EachUnitIsCountedByExits}
 use Rattle.mips_select.specs.Limits.{insts_in, exit_blocks, exits_blocks, most_blocks_for, most_by_exits_for}
-use Rattle.mips_select.specs.Whole.{behind, next_of, blocks_from, blocks_in, lead_blocks, planning_in, function_size, functions_blocks, linking_for, program_blocks}
+use Rattle.mips_select.specs.Whole.{behind, blocks_from, blocks_in, lead_blocks, planning_in, function_size, functions_blocks, linking_for, program_blocks}
 use Rattle.mips_select.proofs.CodeSizes.{insts_few, prologue_most, prologue_few, exit_most, exit_few, behind_most, result_few}
 use Rattle.mips_select.proofs.FrameSizes.{placed_eight, placed_alone}
 use Rattle.mips_select.proofs.Lists.{all_at}
@@ -59,20 +57,7 @@ record Few (bs : List BlockParts) (blocks words : ℕ) : Type 0 where
 module _ (l : Linking) (p : Planning) (eight : length p.frame.saved.items ≤ 8) (four : p.parameters ≤ 4)
     (alone : p.leaf ≡ false → HaveNoCopies p.frame.homes.items) where
   behind_few : (x : RExit) → (suc (length (behind p x)) ≤ exit_blocks x) × (words_in (behind p x) ≤ behind_most x)
-  behind_few (Call g xs d next) = cond_both (resumes d (p.heads next)) [] (after_block p.frame d (p.place next) ∷ [])
-      (λ bs. (suc (length bs) ≤ 2) × (words_in bs ≤ 2)) (λ _. omega arith) (λ _. omega (arith, result_few (locations p.frame) d))
-  behind_few _ = omega arith
-
-  own_few : (j m : ℕ) (b : RBlock) → HasFewArguments b.exit
-      → length (own_block l p.placing (head_code p (p.heads j)) m b).insts + behind_most b.exit
-      ≤ length (head_code p (p.heads j)) + (exit_most p.leaf + 8 * length b.insts.items)
-  own_few j m b few =
-      let at = locations p.frame in
-      let facts = known_after at b.insts.items no_facts in
-      let last = last_after at (asked_of b.exit) no_facts b.insts.items no_last in
-      let exit = exit_few p.leaf p.frame facts last b.exit eight few in
-      let code = insts_few (context_in l p.placing) (asked_of b.exit) no_facts b.insts.items (exit_code p.leaf p.frame facts last b.exit) in
-      omega (arith, exit, code, length-append {A = Plain})
+  behind_few x = grind (arith, result_few)
 
   -- a block, and what is behind it
   one_few : (k j : ℕ) (b : RBlock) (bs : List RBlock) {blocks words : ℕ} → HasFewArguments b.exit
@@ -80,13 +65,17 @@ module _ (l : Linking) (p : Planning) (eight : length p.frame.saved.items ≤ 8)
       → Few (blocks_from l p k j (b ∷ bs)) (exit_blocks b.exit + blocks)
       (length (head_code p (p.heads j)) + (exit_most p.leaf + 8 * length b.insts.items) + words)
   one_few k j b bs few rest =
+      let at = locations p.frame in
+      let facts = known_after at b.insts.items no_facts in
+      let last = last_after at (asked_of b.exit) no_facts b.insts.items no_last in
+      let exit = exit_few p.leaf p.frame facts last b.exit eight few in
+      let code = insts_few (context_in l p.placing) (asked_of b.exit) no_facts b.insts.items (exit_code p.leaf p.frame facts last b.exit) in
       let more = blocks_from l p (k + count p.heads b.exit) (suc j) bs in
-      omega (arith, own_few j (next_of p k b.exit) b few, behind_few b.exit, rest, length-append (behind p b.exit) more, words_append (behind p b.exit) more)
+      omega (arith, exit, code, behind_few b.exit, rest, length-append {A = Plain}, length-append (behind p b.exit) more, words_append (behind p b.exit) more)
 
   -- what an exit has at most, and a prologue with it
   most : (leaf : Bool) → (exit_most leaf ≤ 12) × (prologue_most leaf + exit_most leaf ≤ 28)
-  most true = omega arith
-  most false = omega arith
+  most leaf = grind arith
 
   -- those behind the first begin with two instructions at most
   rest_few : ((j : ℕ) → length (head_code p (p.heads (suc j))) ≤ 2) → (k j : ℕ) (bs : List RBlock)
@@ -104,12 +93,7 @@ module _ (l : Linking) (p : Planning) (eight : length p.frame.saved.items ≤ 8)
   lead_few _ = omega (arith, prologue_few p.leaf p.frame p.parameters eight four alone)
 
 later_head : (p : Planning) (names : List Naming) (j : ℕ) → length (head_code p (head_at (suc j) (slice_get names (suc j)))) ≤ 2
-later_head p names j = by (slice_get names (suc j))
-  where
-    by : (o : Option Naming) → length (head_code p (head_at (suc j) o)) ≤ 2
-    by (Some Unnamed) = grind (arith, nat_tests)
-    by (Some (Called (Some d))) = grind (arith, nat_tests, result_few (locations p.frame) (Some d))
-    by _ = omega arith
+later_head p names j = grind (arith, nat_tests, result_few (locations p.frame))
 
 -- a function of n parameters
 record IsFew (n : ℕ) (bs : List RBlock) (f : Frame) : Type 0 where
@@ -161,11 +145,7 @@ each_counted_by_exits h ok places =
 -- a block has two at most
 exits_few : (bs : List RBlock) → exits_blocks bs ≤ 2 * length bs
 exits_few [] = omega arith
-exits_few (b ∷ bs) = omega (arith, exits_few bs, by b.exit)
-  where
-    by : (x : RExit) → exit_blocks x ≤ 2
-    by (Call g xs d next) = omega arith
-    by _ = omega arith
+exits_few (b ∷ bs) = grind (arith, exits_few bs)
 
 most_few : (funcs : List RFunc) → most_by_exits_for funcs ≤ most_blocks_for funcs
 most_few [] = omega arith

@@ -1,17 +1,17 @@
 -- Where the bytes of globals stand.
 use Rattle.std.proofs.Common.{◌≡◌, ◌⊎◌, inl, inr, ℕ, zero, suc, ◌+◌, ◌-◌, ◌*◌, ◌/◌, ◌%◌, ◌^◌, ◌<◌, ◌≤◌, Bool, List, [], ◌∷◌, ◌++◌, map, length, take}
-use Rattle.std.proofs.Common.{drop, ◌≢◌, ⊎_elim, length-append, append-nil, Some, refl, sym, ap, ap₂, ◌∙◌, subst, arith}
+use Rattle.std.proofs.Common.{drop, ◌≢◌, ⊎_elim, length-append, append-nil, Some, refl, sym, ap, ap₂, ◌∙◌, arith}
 use Rattle.std.specs.Prelude.{All, nat_le, if◌then◌else◌, slice_get, slice_index, sum_by}
 use Rattle.std.proofs.lemmas.Bool.{cases_lt}
 use Rattle.std.proofs.lemmas.List.{append_assoc, take-append-drop, length-drop, length-map, length-replicate}
-use Rattle.std.proofs.lemmas.List.Elements.{All-append, All-from_recursion, All-nil, All-replicate}
+use Rattle.std.proofs.lemmas.List.Elements.{All-append, All-from_recursion, All-map, All-nil, All-replicate}
 use Rattle.std.proofs.lemmas.List.Sums.{sum_by-cons}
 use Rattle.std.proofs.lemmas.Option.{same_Some, none-some, slice_get_within}
 use mathlib.Core.Path.{fun_ext}
 use Rattle.words.specs.declared.width.Width.{Width}
 use Rattle.words.specs.declared.width.Width.TheVariants.{Word, Byte}
 use Rattle.words.specs.Words.{wrap}
-use Rattle.words.specs.Widths.{kept, words_of_elements}
+use Rattle.words.specs.Widths.{kept}
 use Rattle.runs.specs.Stores.{element_at}
 use Rattle.mblock.specs.declared.limits.TheConstants.{UNIT_BYTES}
 use Rattle.rtl.specs.declared.block.RGlobal.{RGlobal}
@@ -38,8 +38,7 @@ HaveValues gs = (a : ℕ) (x : RGlobal) → slice_get gs a ≡ Some x → length
 -- ---- lengths
 
 pub element_length : (w : Width) (v : ℕ) → length (element_bytes w v) ≡ width_bytes w
-element_length Word v = refl
-element_length Byte v = refl
+element_length w v = grind arith
 
 elements_length : (w : Width) (vs : List ℕ) → length (elements_bytes w vs) ≡ width_bytes w * length vs
 elements_length w [] = omega arith
@@ -47,15 +46,11 @@ elements_length w (v ∷ vs) =
     let next : width_bytes w * length (v ∷ vs) ≡ width_bytes w + width_bytes w * length vs = omega arith in
     omega (arith, element_length, elements_length w vs, length-append {A = ℕ}, next)
 
-whole_words : (w : Width) (n : ℕ) → width_bytes w * n + gap_behind w n ≡ 4 * words_of_elements w n
-whole_words Word n = omega arith
-whole_words Byte n = omega arith
-
 pub global_length : (x : RGlobal) → length x.first.items ≡ x.length → length (global_bytes x) ≡ 4 * word_count x
 global_length x same =
     let n : length (first_values x) ≡ x.length = length-map x.first.items (λ v. kept x.width (wrap v)) ∙ same in
     let size : length (elements_bytes x.width (first_values x)) ≡ width_bytes x.width * x.length = rw n at (elements_length x.width (first_values x)) in
-    omega (arith, size, length-replicate {A = ℕ} (gap_behind x.width x.length) 0, length-append {A = ℕ}, whole_words)
+    grind (arith, size, length-replicate {A = ℕ} (gap_behind x.width x.length) 0, length-append {A = ℕ})
 
 -- ---- one global
 
@@ -73,16 +68,12 @@ elements_byte w (x ∷ vs) (suc i) v k b at e =
     )
 
 -- an element is inside its global
-element_inside : (w : Width) (i n : ℕ) → i < n → width_bytes w * i + width_bytes w ≤ 4 * words_of_elements w n
-element_inside Word i n lt = omega (arith, lt)
-element_inside Byte i n lt = omega (arith, lt)
-
 global_inside : (x : RGlobal) (i v : ℕ) → length x.first.items ≡ x.length → slice_get (first_values x) i ≡ Some v
     → width_bytes x.width * i + width_bytes x.width ≤ 4 * word_count x
 global_inside x i v same at =
     let within = slice_get_within (first_values x) i v at in
     let values = length-map x.first.items (λ v. kept x.width (wrap v)) in
-    element_inside x.width i x.length (omega (arith, within, values, same))
+    grind (arith, within, values, same)
 
 -- ---- all globals
 
@@ -120,8 +111,7 @@ start_even n (x ∷ gs) even (suc a) = start_even (n + 4 * word_count x) gs (ome
 
 -- elements of one global
 element_before : (w : Width) (start i j : ℕ) → i < j → element_place w start i + width_bytes w ≤ element_place w start j
-element_before Word start i j lt = omega (arith, lt)
-element_before Byte start i j lt = omega (arith, lt)
+element_before w start i j lt = grind arith
 
 pub elements_apart : (n : ℕ) (gs : List RGlobal) → HaveValues gs → (a i b j v w : ℕ) → element_at (map first_values gs) a i ≡ Some v
     → element_at (map first_values gs) b j ≡ Some w → (a ≡ b → i ≡ j → ⊥)
@@ -160,17 +150,12 @@ data_below (x ∷ gs) =
     (data_below gs)
 
 kept_below : (w : Width) (v : ℕ) → kept w (wrap v) < 2 ^ 32
-kept_below Word v = omega arith
-kept_below Byte v = omega arith
-
-value_below : (w : Width) (l : List ℕ) (i v : ℕ) → slice_get (map (λ v. kept w (wrap v)) l) i ≡ Some v → v < 2 ^ 32
-value_below w [] i v e = absurd (none-some v e)
-value_below w (x ∷ l) zero v e = subst (λ v. v < 2 ^ 32) (same_Some (kept w (wrap x)) v e) (kept_below w x)
-value_below w (x ∷ l) (suc i) v e = value_below w l i v e
+kept_below w v = grind arith
 
 pub values_below : (gs : List RGlobal) (a i v : ℕ) → element_at (map first_values gs) a i ≡ Some v → v < 2 ^ 32
 values_below [] a i v e = absurd (none-some v e)
-values_below (x ∷ gs) zero i v e = value_below x.width x.first.items i v e
+values_below (x ∷ gs) zero i v e =
+    all_at (λ v. v < 2 ^ 32) (first_values x) i v (All-map (λ v. v < 2 ^ 32) _ x.first.items (λ j d lt. kept_below x.width _)) e
 values_below (x ∷ gs) (suc a) i v e = values_below gs a i v e
 
 pub have_values : (gs : List RGlobal) → All IsGlobal gs → HaveValues gs
@@ -208,16 +193,12 @@ padded_append : (xs ys : List RGlobal) → padded_bytes (xs ++ ys) ≡ padded_by
 padded_append [] ys = refl
 padded_append (x ∷ xs) ys = cc (padded_append xs ys, append_assoc (global_bytes x) (padded_bytes xs) (padded_bytes ys))
 
-gap_low : (w : Width) (n : ℕ) → gap_behind w n < 4
-gap_low Word n = omega arith
-gap_low Byte n = omega arith
-
 one_ends : (l : List RGlobal) → length l ≤ 1 → (k : ℕ) × (k < 4) × (padded_bytes l ≡ bare_bytes l ++ zeros k)
 one_ends [] le = (0, omega arith, refl)
 one_ends (x ∷ []) le =
     let es = elements_bytes x.width (first_values x) in
     let gap = gap_behind x.width x.length in
-    (gap, gap_low x.width x.length, append-nil (es ++ zeros gap) ∙ ap (λ l. l ++ zeros gap) (sym (append-nil es)))
+    (gap, grind arith, append-nil (es ++ zeros gap) ∙ ap (λ l. l ++ zeros gap) (sym (append-nil es)))
 one_ends (x ∷ y ∷ l) le = absurd (omega (arith, le))
 
 -- with the gap behind the last global they are the padded ones

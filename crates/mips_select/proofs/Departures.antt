@@ -1,6 +1,6 @@
 -- How blocks are left, apart from what the unit does then: branches and comparisons, what is known there, and where a call goes on.
-use Rattle.std.proofs.Common.{◌≡◌, ℕ, suc, ◌+◌, ◌<◌, ◌≤◌, ◌==◌, Bool, true, false, ◌&&◌, List, [], ◌∷◌, length, Some, None, refl, sym, ap, ◌∙◌}
-use Rattle.std.proofs.Common.{arith, nat_lt, ltb-true, eq-eqb, eqb-true, ⊎_elim}
+use Rattle.std.proofs.Common.{◌≡◌, ℕ, suc, ◌+◌, ◌<◌, ◌≤◌, ◌==◌, Bool, true, List, [], ◌∷◌, length, Some, None, refl, sym, ap, ◌∙◌}
+use Rattle.std.proofs.Common.{arith, eq-eqb, eqb-true, ⊎_elim}
 use Rattle.std.specs.Prelude.{if◌then◌else◌, not, slice_get}
 use Rattle.std.proofs.lemmas.Option.{same_Some, slice_get_within}
 use Rattle.runs.specs.Stores.{Places}
@@ -15,74 +15,49 @@ use Rattle.rtl.specs.declared.instruction.RInst.{RInst}
 use Rattle.rtl.specs.declared.instruction.RExit.{RExit}
 use Rattle.rtl.specs.declared.instruction.RExit.TheVariants.{Branch, Return}
 use Rattle.mips_homes.specs.HomedRun.{callee_saved}
-use Rattle.mips_homes.specs.declared.homed.Frame.{Frame}
 use Rattle.mips_emit.specs.declared.comparison.Form.{Form}
-use Rattle.mips_emit.specs.declared.comparison.Form.TheVariants.{Known}
-use Rattle.mips_emit.specs.declared.comparison.Asked.TheVariants.{Branched}
 use Rattle.mips_emit.specs.declared.comparison.Comparison.{Comparison}
 use Rattle.mips_emit.specs.declared.location.Source.{Source}
-use Rattle.mips_emit.specs.Locations.{Locations, Facts, locations}
-use Rattle.mips_emit.specs.Comparisons.{exit_by_form, comparison_of, last_with, tested}
-use Rattle.std.proofs.lemmas.Bool.{and_parts, cases_eq}
+use Rattle.mips_emit.specs.Locations.{Facts, locations}
+use Rattle.mips_emit.specs.Comparisons.{exit_by_form, comparison_of, last_with}
+use Rattle.std.proofs.lemmas.Bool.{cases_eq}
+use Rattle.std.proofs.lemmas.Bool.Decides.{nat_tests}
 use Rattle.mips_select.proofs.Places.{HasAt, has_whole, has_head, has_tail}
-use Rattle.mips_emit.proofs.Runs.{if_some}
 use Rattle.mips_emit.proofs.Operands.{passes}
 use Rattle.mips_emit.proofs.Comparing.{none_asked, asked_result, returned_result}
 use Rattle.mips_select.specs.Plans.{Linking, Placing}
 use Rattle.mips_select.specs.Code.{asked_of, exit_code, exit_of}
 
 pub branch_words : (place : ℕ → ℕ) (x y : ℕ) (b : Bool) → (if not b then place y else place x) ≡ place (if b then x else y)
-branch_words place x y true = refl
-branch_words place x y false = refl
+branch_words place x y b = grind arith
 
 pub either : (head : ℕ → List Plain) (x y : ℕ) (b : Bool) → (head y ≡ []) × (head x ≡ []) → head (if b then x else y) ≡ []
-either head x y true e = e.1
-either head x y false e = e.0
+either head x y b e = grind arith
 
 -- a callee-saved register is none of those in which arguments are passed
 pub above_arguments : (r : Places) (q w : ℕ) → callee_saved r q ≡ Some w → 8 ≤ q
-above_arguments r q w e =
-    let low = ltb-true 15 q (and_parts (nat_lt 15 q) (nat_lt q 24) (if_some (nat_lt 15 q && nat_lt q 24) (r q) w e).0).0 in omega (arith, low)
+above_arguments r q w e = grind (arith, nat_tests)
 
 -- a branch for a comparison
 pub goes_by : (blocks : List BlockParts) (links : ℕ → ℕ) (form : Form) (x y : Source) (t e : ℕ) (k : ℕ) (s : State) (out : List ℕ) (n : ℕ)
     → outcome_of_departure blocks links (exit_effect (exit_by_form form x y t e) s (links k)).goes (items blocks links n)
     (exit_effect (exit_by_form form x y t e) s (links k)).state out
     ≡ outcome_at_block (if passes form x y s then t else e) (slice_get blocks (if passes form x y s then t else e)) (items blocks links n) s out
-goes_by blocks links (Known b) x y t e k s out n = refl
-goes_by blocks links _ x y t e k s out n = refl
+goes_by blocks links form x y t e k s out n = grind arith
 
--- behind a comparison the exit doesn't go by what is known
-asked_test : (at : Locations) (facts : Facts) (c : ℕ) (i : RInst) (m : Comparison) → comparison_of at facts (Branched c) i ≡ Some m
-    → tested (Some m) c ≡ Some m
-asked_test at facts c i m e = ap (λ b. if b then Some m else None) (asked_result at facts c i m e)
-
-pub same_exit : (l : Linking) (p : Placing) (facts known known' : Facts) (i : RInst) (m : Comparison) (n : ℕ) (x : RExit)
+-- behind a comparison neither the exit nor what stands before it goes by what is known
+pub same_left : (l : Linking) (p : Placing) (facts known known' : Facts) (i : RInst) (m : Comparison) (n : ℕ) (x : RExit)
     → comparison_of (locations p.frame) facts (asked_of x) i ≡ Some m
-    → exit_of l p known (last_with (Some m) None) n x ≡ exit_of l p known' (last_with (Some m) None) n x
-same_exit l p facts known known' i m n (Branch c t e) is =
-    let test = asked_test (locations p.frame) facts c i m is in
-    rw test
-same_exit l p facts known known' i m n (Return (Some x)) is = refl
-same_exit l p facts known known' i m n _ is = absurd (none_asked (locations p.frame) facts i m is)
-
-pub same_code : (leaf : Bool) (f : Frame) (facts known known' : Facts) (i : RInst) (m : Comparison) (x : RExit)
-    → comparison_of (locations f) facts (asked_of x) i ≡ Some m
-    → exit_code leaf f known (last_with (Some m) None) x ≡ exit_code leaf f known' (last_with (Some m) None) x
-same_code leaf f facts known known' i m (Branch c t e) is =
-    let test = asked_test (locations f) facts c i m is in
-    rw test
-same_code leaf f facts known known' i m (Return (Some x)) is =
-    let test = returned_result (locations f) facts x i m is in
-    rw test
-same_code leaf f facts known known' i m _ is = absurd (none_asked (locations f) facts i m is)
+    → (exit_of l p known (last_with (Some m) None) n x ≡ exit_of l p known' (last_with (Some m) None) n x)
+    × (exit_code p.leaf p.frame known (last_with (Some m) None) x ≡ exit_code p.leaf p.frame known' (last_with (Some m) None) x)
+same_left l p facts known known' i m n (Branch c t e) is = rw (asked_result (locations p.frame) facts c i m is) (refl, refl)
+same_left l p facts known known' i m n (Return (Some x)) is = rw (returned_result (locations p.frame) facts x i m is) (refl, refl)
+same_left l p facts known known' i m n _ is = absurd (none_asked (locations p.frame) facts i m is)
 
 -- ---- where a call goes on
 
 passed_by : (e : Exit) (t : Bool) (n : ℕ) → (is_call e ≡ true → t ≡ true → ⊥) → call_return_of e t (Some n) ≡ Some n
-passed_by (E.Call g m) true n no_call = absurd (no_call refl refl)
-passed_by (E.Call g m) false n no_call = refl
-passed_by _ t n no_call = refl
+passed_by e t n no_call = grind arith
 
 -- the call of block k goes on where its link leads back
 module _ (links : ℕ → ℕ) (blocks : List BlockParts) (k f n : ℕ) (b : BlockParts) (tells : TellsApart links blocks) (there : slice_get blocks k ≡ Some b)

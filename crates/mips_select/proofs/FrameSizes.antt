@@ -41,11 +41,6 @@ unused_rises hs low (r ∷ rs) h =
     let rest = unused_rises hs r rs h.1 in
     cond_both (lives_in hs r) (unused hs rs) (r ∷ unused hs rs) (Rising low) (λ _. lower r low (unused hs rs) (omega (arith, h.0)) rest) (λ _. (h.0, rest))
 
-above : (low : ℕ) (rs : List ℕ) (j r : ℕ) → Rising low rs → slice_get rs j ≡ Some r → low < r
-above low [] j r h e = absurd (none-some r e)
-above low (x ∷ rs) zero r h e = omega (arith, h.0, same_Some x r e)
-above low (x ∷ rs) (suc j) r h e = omega (arith, h.0, above x rs j r h.1 e)
-
 -- ---- copies
 
 -- homes without copies
@@ -55,54 +50,51 @@ ArePlain hs = (x : ℕ) (h : Home) → slice_get hs x ≡ Some h → cell h ≡ 
 pub no_copies : (hs : List Home) → ArePlain hs → HaveNoCopies hs
 no_copies hs plain x r k e = let other : Slot k ≡ Copied r k = plain x (Copied r k) e in cc
 
--- each copy is in one of the registers
-register_of : (free : List ℕ) (hs : List Home) (x r k : ℕ) → ArePlain hs → slice_get (copied_onto free hs) x ≡ Some (Copied r k)
-    → (j : ℕ) × (slice_get free j ≡ Some r)
-register_of free [] x r k plain e = absurd (none-some (Copied r k) e)
-register_of free (Copied q i ∷ hs) x r k plain e = absurd (no_copies (Copied q i ∷ hs) plain 0 q i refl)
-register_of free (Reg q ∷ hs) zero r k plain e = (let same = same_Some (Reg q) (Copied r k) e in absurd cc)
-register_of free (Reg q ∷ hs) (suc x) r k plain e = register_of free hs x r k (λ x. plain (suc x)) e
-register_of [] (Slot i ∷ hs) zero r k plain e = (let same = same_Some (Slot i) (Copied r k) e in absurd cc)
-register_of [] (Slot i ∷ hs) (suc x) r k plain e = register_of [] hs x r k (λ x. plain (suc x)) e
-register_of (q ∷ free) (Slot i ∷ hs) zero r k plain e = (0, (let same = same_Some (Copied q i) (Copied r k) e in cc))
-register_of (q ∷ free) (Slot i ∷ hs) (suc x) r k plain e = (let w = register_of free hs x r k (λ x. plain (suc x)) e in (suc w.0, w.1))
+-- the registers of copies rise, and each one has P
+module _ (P : ℕ → Type 0) where
+  abbrev Climbing : ℕ → List Home → Type 0
+  Climbing low [] = Unit {0}
+  Climbing low (Copied r k ∷ hs) = (low < r) × P r × Climbing r hs
+  Climbing low (h ∷ hs) = Climbing low hs
 
-later : (q : ℕ) (free : List ℕ) (hs : List Home) (y r i j k : ℕ) → ArePlain (Slot i ∷ hs) → Rising q free → Copied q i ≡ Copied r j
-    → slice_get (copied_onto free hs) y ≡ Some (Copied r k) → ⊥
-later q free hs y r i j k plain up same f =
-    let w = register_of free hs y r k (λ x. plain (suc x)) f in
-    let lt = above q free w.0 r up w.1 in
-    let e : q ≡ r = cc in
-    absurd (omega (arith, lt, e))
+  climbs : (low : ℕ) (free : List ℕ) (hs : List Home) → ArePlain hs → Rising low free → ((j r : ℕ) → slice_get free j ≡ Some r → P r)
+      → Climbing low (copied_onto free hs)
+  climbs low free [] plain up each = tt
+  climbs low free (Copied q i ∷ hs) plain up each = absurd (no_copies (Copied q i ∷ hs) plain 0 q i refl)
+  climbs low free (Reg q ∷ hs) plain up each = climbs low free hs (λ x. plain (suc x)) up each
+  climbs low [] (Slot i ∷ hs) plain up each = climbs low [] hs (λ x. plain (suc x)) up each
+  climbs low (q ∷ free) (Slot i ∷ hs) plain up each = (up.0, each 0 q refl, climbs q free hs (λ x. plain (suc x)) up.1 (λ j. each (suc j)))
 
-once : (low : ℕ) (free : List ℕ) (hs : List Home) (x y r j k : ℕ) → ArePlain hs → Rising low free → slice_get (copied_onto free hs) x ≡ Some (Copied r j)
-    → slice_get (copied_onto free hs) y ≡ Some (Copied r k) → x ≡ y
-once low free [] x y r j k plain up e f = absurd (none-some (Copied r j) e)
-once low free (Copied q i ∷ hs) x y r j k plain up e f = absurd (no_copies (Copied q i ∷ hs) plain 0 q i refl)
-once low free (Reg q ∷ hs) zero y r j k plain up e f = (let same = same_Some (Reg q) (Copied r j) e in absurd cc)
-once low free (Reg q ∷ hs) (suc x) zero r j k plain up e f = (let same = same_Some (Reg q) (Copied r k) f in absurd cc)
-once low free (Reg q ∷ hs) (suc x) (suc y) r j k plain up e f = ap suc (once low free hs x y r j k (λ x. plain (suc x)) up e f)
-once low [] (Slot i ∷ hs) zero y r j k plain up e f = (let same = same_Some (Slot i) (Copied r j) e in absurd cc)
-once low [] (Slot i ∷ hs) (suc x) zero r j k plain up e f = (let same = same_Some (Slot i) (Copied r k) f in absurd cc)
-once low [] (Slot i ∷ hs) (suc x) (suc y) r j k plain up e f = ap suc (once low [] hs x y r j k (λ x. plain (suc x)) up e f)
-once low (q ∷ free) (Slot i ∷ hs) zero zero r j k plain up e f = refl
-once low (q ∷ free) (Slot i ∷ hs) zero (suc y) r j k plain up e f = absurd (later q free hs y r i j k plain up.1 (same_Some (Copied q i) (Copied r j) e) f)
-once low (q ∷ free) (Slot i ∷ hs) (suc x) zero r j k plain up e f = absurd (later q free hs x r i k j plain up.1 (same_Some (Copied q i) (Copied r k) f) e)
-once low (q ∷ free) (Slot i ∷ hs) (suc x) (suc y) r j k plain up e f = ap suc (once q free hs x y r j k (λ x. plain (suc x)) up.1 e f)
+  at_copy : (low : ℕ) (hs : List Home) (x r k : ℕ) → Climbing low hs → slice_get hs x ≡ Some (Copied r k) → (low < r) × P r
+  at_copy low [] x r k up e = absurd (none-some (Copied r k) e)
+  at_copy low (Copied q i ∷ hs) zero r k up e = (let same : q ≡ r = cc in let here : (low < q) × P q = (up.0, up.1) in rw same at here)
+  at_copy low (Copied q i ∷ hs) (suc x) r k up e = (let rest = at_copy q hs x r k up.2 e in (omega (arith, up.0, rest.0), rest.1))
+  at_copy low (h ∷ hs) zero r k up e = absurd cc
+  at_copy low (h ∷ hs) (suc x) r k up e = at_copy low hs x r k up e
 
-module _ (hs : List Home) (plain : ArePlain hs) where
-  is_free : (x r k : ℕ) → slice_get (copied_onto (unused hs temporaries) hs) x ≡ Some (Copied r k) → IsTemporary r × (lives_in hs r ≡ false)
-  is_free x r k e = (let w = register_of (unused hs temporaries) hs x r k plain e in unused_temporary hs w.0 r w.1)
+  once : (low : ℕ) (hs : List Home) (x y r j k : ℕ) → Climbing low hs → slice_get hs x ≡ Some (Copied r j) → slice_get hs y ≡ Some (Copied r k) → x ≡ y
+  once low [] x y r j k up e f = absurd (none-some (Copied r j) e)
+  once low (h ∷ hs) zero zero r j k up e f = refl
+  once low (Copied q i ∷ hs) zero (suc y) r j k up e f = (let same : q ≡ r = cc in absurd (omega (arith, (at_copy q hs y r k up.2 f).0, same)))
+  once low (Copied q i ∷ hs) (suc x) zero r j k up e f = (let same : q ≡ r = cc in absurd (omega (arith, (at_copy q hs x r j up.2 e).0, same)))
+  once low (Copied q i ∷ hs) (suc x) (suc y) r j k up e f = ap suc (once q hs x y r j k up.2 e f)
+  once low (h ∷ hs) (suc x) (suc y) r j k up e f = ap suc (once low hs x y r j k up e f)
+  once low (h ∷ hs) _ _ r j k up e f = absurd cc
 
-  are_copies : AreCopies (copied_onto (unused hs temporaries) hs)
-  are_copies = record {
-    range = λ x r k e. (let t = (is_free x r k e).0 in (t.0, t.1));
-    caller_saved = λ x r k e. ((is_free x r k e).0).2;
-    once = λ x y r j k e f. once 7 (unused hs temporaries) hs x y r j k plain (unused_rises hs 7 temporaries (omega arith)) e f;
-    idle = λ x y r k at e.
-        let was = onto_get (unused hs temporaries) hs x (Reg r) at in
-        true≢false (sym (lives hs x r (was.1 ∙ ap Some (sym (plain x was.0 was.1) ∙ was.2))) ∙ (is_free y r k e).1);
-  }
+-- copies are in registers that nothing else uses
+are_copies : (hs : List Home) → ArePlain hs → AreCopies (copied_onto (unused hs temporaries) hs)
+are_copies hs plain =
+    let free = unused hs temporaries in
+    let up = climbs (λ r. IsTemporary r × (lives_in hs r ≡ false)) 7 free hs plain (unused_rises hs 7 temporaries (omega arith)) (unused_temporary hs) in
+    let is_free = λ (x r k : ℕ) (e : slice_get (copied_onto free hs) x ≡ Some (Copied r k)). (at_copy _ 7 (copied_onto free hs) x r k up e).1 in
+    record {
+      range = λ x r k e. (let t = (is_free x r k e).0 in (t.0, t.1));
+      caller_saved = λ x r k e. ((is_free x r k e).0).2;
+      once = λ x y r j k e f. once _ 7 (copied_onto free hs) x y r j k up e f;
+      idle = λ x y r k at e.
+          let was = onto_get free hs x (Reg r) at in
+          true≢false (sym (lives hs x r (was.1 ∙ ap Some (sym (plain x was.0 was.1) ∙ was.2))) ∙ (is_free y r k e).1);
+    }
 
 pub copies_are : (bs : List RBlock) (hs : List Home) → ArePlain hs → AreCopies (copied bs hs)
 copies_are bs hs plain = cond_both (is_leaf bs) (copied_onto (unused hs temporaries) hs) hs AreCopies (λ _. are_copies hs plain) (λ _. record {

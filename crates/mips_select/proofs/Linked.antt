@@ -24,7 +24,7 @@ use Rattle.mips_emit.specs.Comparisons.{exit_by_form, last_after, no_last, teste
 use Rattle.mips_select.specs.Functions.{blocks_of, owners_of, IsFrom, GoesWithin, IsFunctionAt, AreFunctions}
 use Rattle.mips_select.proofs.Owned.{functions_owned}
 use Rattle.mips_select.specs.declared.heads.Head.{Head}
-use Rattle.mips_select.specs.declared.heads.Head.TheVariants.{Bare, Enters}
+use Rattle.mips_select.specs.declared.heads.Head.TheVariants.{Enters}
 use Rattle.mips_select.specs.Heads.{heads_of, resumes, count, lead_of, lead_in}
 use Rattle.mips_select.specs.Plans.{Linking, Planning}
 use Rattle.mips_select.specs.Code.{asked_of, exit_of, after_block, start_block, end_block}
@@ -33,13 +33,11 @@ use Rattle.mips_select.specs.Whole.{size_of_blocks, numbers, next_of, behind, bl
 use Rattle.mips_select.specs.Whole.{function_size, functions_size, entries_from, entry_of, owners_from, owners_for, functions_blocks, linking_for, program_blocks}
 
 pub behind_length : (p : Planning) (x : RExit) → suc (length (behind p x)) ≡ count p.heads x
-behind_length p (Call g xs d next) = grind arith
-behind_length p _ = refl
+behind_length p x = grind arith
 
 -- each block takes a number
 pub one_at_least : (heads : ℕ → Head) (x : RExit) → 1 ≤ count heads x
-one_at_least heads (Call g xs d next) = grind arith
-one_at_least heads _ = omega arith
+one_at_least heads x = grind arith
 
 pub blocks_length : (l : Linking) (p : Planning) (k j : ℕ) (bs : List RBlock) → length (blocks_from l p k j bs) ≡ size_of_blocks p.heads bs
 blocks_length l p k j [] = refl
@@ -48,8 +46,7 @@ blocks_length l p k j (b ∷ bs) =
     omega (arith, blocks_length l p (k + count p.heads b.exit) (suc j) bs, behind_length p b.exit, length-append (behind p b.exit) rest)
 
 pub lead_length : (p : Planning) (head : Head) → length (lead_blocks p head) ≡ lead_of head
-lead_length p Bare = refl
-lead_length p _ = refl
+lead_length p head = grind arith
 
 pub function_length : (l : Linking) (k : ℕ) (func : RFunc) (f : Frame)
     → length (function_blocks l k func f) ≡ function_size func
@@ -161,7 +158,7 @@ functions_joined : (l : Linking) (k : ℕ) (funcs : List RFunc) (fs : List Frame
 functions_joined l k (func ∷ funcs) (f ∷ fs) = ap (λ rest. function_blocks l k func f ++ rest) (functions_joined l (k + function_size func) funcs fs)
 functions_joined l k _ _ = refl
 
-functions_length : (l : Linking) (k : ℕ) (funcs : List RFunc) (fs : List Frame) → length fs ≡ length funcs
+pub functions_length : (l : Linking) (k : ℕ) (funcs : List RFunc) (fs : List Frame) → length fs ≡ length funcs
     → length (functions_blocks l k funcs fs) ≡ functions_size funcs
 functions_length l k [] fs same = refl
 functions_length l k (func ∷ funcs) [] same = absurd (omega (arith, same))
@@ -174,10 +171,6 @@ functions_owners l k [] fs same = refl
 functions_owners l k (func ∷ funcs) [] same = absurd (omega (arith, same))
 functions_owners l k (func ∷ funcs) (f ∷ fs) same =
     cc (function_length l k func f, functions_owners l (k + function_size func) funcs fs (omega (arith, same)))
-
--- as many as the functions take, and two
-pub program_length : (h : Homed) → length h.frames.items ≡ length (h.rtl.now).functions → length (program_blocks h) ≡ 2 + functions_size (h.rtl.now).functions
-program_length h same = omega (arith, functions_length (linking_for h.rtl.now) 2 (h.rtl.now).functions h.frames.items same)
 
 starts_go : (bound main : ℕ) → main < bound → 1 < bound → (i : ℕ) (b : BlockParts) → slice_get (start_block main ∷ end_block ∷ []) i ≡ Some b
     → GoesWithin bound 0 2 b.exit

@@ -1,5 +1,5 @@
 -- Where the pieces of each block stand, and to which block each piece belongs.
-use Rattle.std.proofs.Common.{⊎_elim, ◌≡◌, ℕ, zero, suc, ◌+◌, ◌-◌, ◌*◌, ◌/◌, ◌<◌, ◌≤◌, ◌⊎◌, inl, inr, List, [], ◌∷◌, ◌++◌, length, length-append, Some}
+use Rattle.std.proofs.Common.{⊎_elim, ◌≡◌, ℕ, zero, suc, ◌+◌, ◌-◌, ◌*◌, ◌<◌, ◌≤◌, ◌⊎◌, inl, inr, List, [], ◌∷◌, ◌++◌, length, length-append, Some}
 use Rattle.std.proofs.Common.{refl, sym, ap, ◌∙◌, arith, drop}
 use Rattle.std.specs.Prelude.{slice_get, slice_index}
 use Rattle.std.proofs.lemmas.Bool.{cases_lt}
@@ -127,10 +127,6 @@ first_next most k (x ∷ []) zero a b a_there b_there = absurd (none-some b b_th
 first_next most k (x ∷ y ∷ bs) zero a b a_there b_there =
     omega (arith, ap (λ (b : BlockParts). more_pieces most b) (same_Some x a a_there))
 first_next most k (x ∷ bs) (suc n) a b a_there b_there = first_next most (k + count_of most x) bs n a b a_there b_there
-
--- the pieces hold all instructions
-pub pieces_enough : (most n : ℕ) → 0 < most → n ≤ most * ((n - 1) / most) + most
-pieces_enough most n some = omega arith
 
 -- a piece is short. The last one has the block's exit, each other one goes to the next
 pub record IsPieceAt (most : ℕ) (exit : Exit) (more k j : ℕ) (b : BlockParts) : Type 0 where

@@ -32,7 +32,7 @@ use Rattle.mips_emit.specs.declared.comparison.Comparison.{Comparison}
 use Rattle.mips_emit.specs.declared.facts.Last.{Last}
 use Rattle.mips_emit.specs.declared.location.Source.{Source}
 use Rattle.mips_emit.specs.Locations.{Facts, no_facts, known_in, locations, learned, known_after, fresh_of, last_operand}
-use Rattle.mips_emit.specs.Code.{inst_code, carry}
+use Rattle.mips_emit.specs.Code.{inst_code}
 use Rattle.mips_emit.specs.Comparisons.{comparison_code, comparison_of, asked_last, next_code, last_with, no_last, last_after}
 use Rattle.mips_emit.specs.Comparisons.{tested, branch_code, branch_exit, is_result, returned, return_code}
 use Rattle.mips_emit.specs.Frames.{IsFrame}
@@ -49,7 +49,7 @@ use Rattle.mips_select.specs.Plans.{Linking, Placing, placing_of}
 use Rattle.mips_select.specs.Code.{epilogue, asked_of, exit_code, exit_of, code_insts}
 use Rattle.mips_select.specs.Code.{context_in, own_block, result_code, after_block}
 use Rattle.mips_select.specs.Selected.{GoesOn, StandsAt, IsPlaced, IsFunction, IsSelected}
-use Rattle.mips_select.proofs.Departures.{branch_words, either, above_arguments, goes_by, same_exit, same_code, return_found}
+use Rattle.mips_select.proofs.Departures.{branch_words, either, above_arguments, goes_by, same_left, return_found}
 use Rattle.mips_select.proofs.Frames.{all_denote, arguments, parameters}
 use Rattle.mips_select.proofs.Calls.{stored_frame, frames_of, linked_frames, enters, leaves_frame}
 
@@ -408,15 +408,6 @@ module _ {h : Homed} {depth : ℕ} {blocks : List BlockParts} (ok : IsSelected h
         found (Some q) is t = let there = if_some (nat_eq q.result x) (Some q) n t in
             rw (← same_Some q n there.1) (m.is_last.comparison q v is (ap (read_home homes r a.slots) (eqb-true q.result x there.0) ∙ e))
 
-    outputs : (x next : ℕ) (c : Leaving (Out x next)) (v : ℕ) → Reads x v
-        → From (carry 4 (operand x)) (state_at_block next a a.slots (around (callee_saved r) ws g (out ++ v ∷ [])))
-    outputs x next c v e =
-        let one = carries settles 4 v (operand x) (omega arith) (means x v e) in
-        let st1 = caller_saved_kept settles (above_arguments r) (omega arith) one in
-        let s1 : State = record s { regs = one.regs } in
-        let st2 = words_kept st1 (set_words s1 2 1 st1.words (omega arith)) (λ q low _. put_other s1.regs 2 1 q (omega (arith, low))) in
-        goes_on next (out ++ v ∷ []) one.runs st2 c.leads_on (λ target there. departs c.there c.exit (λ n. rw (one.here, there)))
-
     gives : (x : ℕ) → Leaving (Return (Some x)) → (v : ℕ) → Reads x v → (b : Bool) → returned m.last.comparison x ≡ b
         → From (return_code b (operand x) ++ epilogue m.leaf a.frame) (state_after_return (Some v) a (callee_saved r) ws g out)
     gives x c v e true is =
@@ -434,7 +425,12 @@ module _ {h : Homed} {depth : ℕ} {blocks : List BlockParts} (ok : IsSelected h
     exits : (x : RExit) → Leaving x → From (exit_code m.leaf a.frame m.facts m.last x) (state_after_exit h depth x a (around r ws g out))
     exits (Goto b) c = goes_on b out (runs_none s) settles c.leads_on (λ target there. jump c.there c.exit there)
     exits (Branch x y z) c = reading x _ _ (λ v e. branches x y z c v e (tested m.last.comparison x) refl (known_in m.facts x) refl c.exit)
-    exits (Out x next) c = reading x _ _ (outputs x next c)
+    exits (Out x next) c = reading x _ _ (λ v e.
+        let one = carries settles 4 v (operand x) (omega arith) (means x v e) in
+        let st1 = caller_saved_kept settles (above_arguments r) (omega arith) one in
+        let s1 : State = record s { regs = one.regs } in
+        let st2 = words_kept st1 (set_words s1 2 1 st1.words (omega arith)) (λ q low _. put_other s1.regs 2 1 q (omega (arith, low))) in
+        goes_on next (out ++ v ∷ []) one.runs st2 c.leads_on (λ target there. departs c.there c.exit (λ n. rw (one.here, there))))
     exits (Return None) c = goes_back None c None (runs_none s) settles (λ v none. absurd (none-some v none))
     exits (Return (Some x)) c = reading x _ _ (λ v e. gives x c v e (returned m.last.comparison x) refl)
     exits (Call f xs result_to next) c =
@@ -516,13 +512,13 @@ module _ {h : Homed} {depth : ℕ} {blocks : List BlockParts} (ok : IsSelected h
         (λ r' s' g'. Running r' (at_code a s' (left []) ∷ ws) g' out) is (frame_homes ok.most a.frame m.frame) m.is_known m.are_deferred m.stands
         (λ q u s' some e st lz new. leads_to
         (subst (λ l. Lead (length code) (At k (code ++ rest) s out) (At k l s' out))
-        (same_code m.leaf a.frame m.facts now (waiting m.facts q u) i n a.code.exit is) (leads_run k rest out e)) some
+        (same_left linking placing m.facts now (waiting m.facts q u) i n c.next a.code.exit is).1 (leads_run k rest out e)) some
         (match_at a out m.lives (left []) (waiting m.facts q u) (last_with (Some n) None)
         (record {
           form = c.form;
           next = c.next;
           there = c.there;
-          exit = c.exit ∙ same_exit linking placing m.facts now (waiting m.facts q u) i n c.next a.code.exit is;
+          exit = c.exit ∙ (same_left linking placing m.facts now (waiting m.facts q u) i n c.next a.code.exit is).0;
           leads_on = c.leads_on;
         })
         (nothing_known homes (places_with r q (Some u)) a.slots) lz (no_bases gs starts s'.regs) new st))

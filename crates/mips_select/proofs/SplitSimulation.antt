@@ -37,9 +37,7 @@ module _ (most : ℕ) (place links : ℕ → ℕ) (word : ℕ) where
 
   call_renumbered : (exit : Exit) (found : Bool) (rest : Option ℕ)
       → call_return_of (renumbered_exit place exit) found (option_map place rest) ≡ option_map place (call_return_of exit found rest)
-  call_renumbered (Call f n) true rest = refl
-  call_renumbered (Call f n) false rest = refl
-  call_renumbered _ found rest = refl
+  call_renumbered exit found rest = grind arith
 
   -- a return finds the first piece of the block that it finds in the long unit
   pub return_renumbered : (long : ℕ → ℕ) (k n : ℕ) (bs : List BlockParts) → ((j : ℕ) → long (n + j) ≡ links (slice_index (lasts most k bs) j))
@@ -84,11 +82,6 @@ module _ (whole : List BlockParts) (links : ℕ → ℕ) where
       → slice_get whole t ≡ Some q → Reached i t q.insts s out end → Reached i k [] s out end
   entered i k s out end there is at r = (suc r.0, omega (arith, r.1), rw (there, is, at) r.2)
 
-  -- one instruction
-  one_step : (k : ℕ) (x a : Plain) (part : List Plain) (i : ℕ) (s : State) (out : List ℕ) (end : Outcome) → x ≡ a
-      → Reached i k part (state_after (action_of a) s) out end → Reached (suc i) k (x ∷ part) s out (if is_safe (action_of a) s then end else wrong out)
-  one_step k x a part i s out end e r = (suc r.0, omega (arith, r.1), cc (r.2))
-
   module _ (most : ℕ) (exit : Exit) (last : ℕ) where
     -- a piece is left for the next one, and the last one as the block is
     abbrev Leaves : (more k : ℕ) → (behind : List Plain) → Exit → Type 0
@@ -129,14 +122,15 @@ module _ (whole : List BlockParts) (links : ℕ → ℕ) where
         → Reached (suc i) k part s out (if is_safe (action_of a) s then end else wrong out)
     steps more k (x ∷ part) a rest i s out end at f =
         let same : a ∷ rest ≡ x ∷ (part ++ at.behind) = at.same in
-        one_step k x a part i s out end (cc) (f more k part (record {
+        let r = f more k part (record {
           behind = at.behind;
           same = cc;
           is_last = at.is_last;
           block = at.block;
           there = at.there;
           leaves = at.leaves;
-        }))
+        }) in
+        (suc r.0, omega (arith, r.1), cc (r.2))
     steps zero k [] a rest i s out end at f = let none : a ∷ rest ≡ [] = at.same ∙ at.leaves.0 in cc
     steps (suc more) k [] a rest i s out end at f = next more (suc i) k s out _ at (λ part e. steps more (suc k) part a rest i s out end e f)
 
@@ -236,10 +230,6 @@ unit_runs most (b ∷ bs) linked links s i = enter most (b ∷ bs) linked links 
 
 -- ---- links that tell the pieces' calls apart tell the calls of the long unit apart
 
-call_stays : (place : ℕ → ℕ) (exit : Exit) → is_call (renumbered_exit place exit) ≡ is_call exit
-call_stays place (Goto t) = refl
-call_stays place _ = refl
-
 module _ (most : ℕ) (blocks : List BlockParts) where
   -- the last piece of a block is a call where the block is
   last_of_block : (n : ℕ) (b : BlockParts) → slice_get blocks n ≡ Some b
@@ -249,7 +239,7 @@ module _ (most : ℕ) (blocks : List BlockParts) where
       let place = first_piece_of most blocks in
       let p = last_there most (renumbered_exit place b.exit) whole (more_pieces most b) (place n) b.insts
       (has_pieces most place whole 0 blocks (has_whole whole) n b there) in
-      (p.0, sym (ap (slice_get whole) (last_piece most 0 blocks n b there)) ∙ p.1, ap is_call p.2 ∙ call_stays place b.exit)
+      (p.0, sym (ap (slice_get whole) (last_piece most 0 blocks n b there)) ∙ p.1, grind (arith, p.2))
 
   pub told_apart : (links : ℕ → ℕ) → TellsApart links (split_at_most most blocks) → TellsApart (λ n. links (last_of most blocks n)) blocks
   told_apart links tells = record {

@@ -1,5 +1,5 @@
 -- The blocks that stand for a program keep its runs, and so does its unit.
-use Rattle.std.proofs.Common.{◌≡◌, ◌≢◌, ℕ, ◌+◌, ◌-◌, ◌*◌, ◌/◌, ◌%◌, ◌^◌, ◌<◌, ◌≤◌, List, [], ◌∷◌, map}
+use Rattle.std.proofs.Common.{◌≡◌, ◌≢◌, ℕ, ◌+◌, ◌-◌, ◌%◌, ◌^◌, ◌<◌, ◌≤◌, List, [], ◌∷◌, map}
 use Rattle.std.proofs.Common.{length, Some, None, refl, sym, ap, ◌∙◌, arith, le-leb}
 use Rattle.std.specs.Prelude.{slice_get}
 use Rattle.std.proofs.lemmas.Bool.{lt-leb}
@@ -58,10 +58,6 @@ data_byte l p b few there =
     let place : data_base + p - data_base ≡ p = omega arith in
     cc (lt-leb stack_base (data_base + p) below, le-leb data_base (data_base + p) low, get_or_from_slice_get l p b 0 there)
 
--- the bytes of a word
-four_bytes : (v : ℕ) → v < 2 ^ 32 → v / 2 ^ 24 % 256 * 2 ^ 24 + v / 2 ^ 16 % 256 * 2 ^ 16 + v / 2 ^ 8 % 256 * 2 ^ 8 + v % 256 ≡ v
-four_bytes v lt = omega arith
-
 module _ (l : List ℕ) (few : length l ≤ UNIT_BYTES) where
   -- what a load sees where the bytes of an element stand
   element_shown : (w : Width) (start i v : ℕ) → v < 2 ^ 32 → start % 4 ≡ 0 → ((k b : ℕ) → slice_get (element_bytes w v) k ≡ Some b
@@ -82,7 +78,7 @@ module _ (l : List ℕ) (few : length l ≤ UNIT_BYTES) where
       let ok = open_data Word (length l) p (element_aligned Word start i even) (slice_get_within l p (byte_of v 0) here) in
       let b0 : s.memory a ≡ byte_of v 0 = data_byte l p (byte_of v 0) few here in
       let b = λ (k : ℕ) (e : slice_get (element_bytes Word v) k ≡ Some (byte_of v k)). next k (byte_of v k) (there k (byte_of v k) e) in
-      rw (ok, b0, b 1 refl, b 2 refl, b 3 refl) (four_bytes v lt)
+      rw (ok, b0, b 1 refl, b 2 refl, b 3 refl) (omega arith)
     where
       next : (k b : ℕ) → slice_get l (element_place Word start i + k) ≡ Some b → (start_state l).memory (data_base + element_place Word start i + k) ≡ b
       next k b at =

@@ -11,7 +11,7 @@ use Rattle.mblock.specs.Parts.{BlockParts}
 use Rattle.mblock.specs.Units.{GoesBelow, BranchesWithin, Continues, AreLinked, AreOwners}
 use Rattle.mips_select.specs.Split.{renumbered_exit, more_pieces, pieces, count_of, firsts, first_piece_of, split_at_most, owners_from, total}
 use Rattle.mips_select.proofs.Places.{HasAt, has_whole, has_front, has_back, has_pieces, has_get, block_there, length-pieces}
-use Rattle.mips_select.proofs.Places.{length-split_from, Located, located, first_next, pieces_enough, IsPieceAt, piece_at}
+use Rattle.mips_select.proofs.Places.{length-split_from, Located, located, first_next, IsPieceAt, piece_at}
 
 pub get_replicate : {A : Type 0} (n : ℕ) (x : A) (j : ℕ) → j < n → slice_get (replicate n x) j ≡ Some x
 get_replicate n x j lt = slice_get-get_or (replicate n x) j x (rw (length-replicate n x) lt) ∙ ap Some (get_or-replicate n j x x lt)
@@ -63,7 +63,7 @@ module _ (most : ℕ) (some : 0 < most) (blocks : List BlockParts) where
       let b = block_there blocks t lt in omega (arith, piece_there t b.0 b.1 0 (omega arith))
 
   -- piece i of the unit
-  piece_of : (i : ℕ) (p : BlockParts) → slice_get whole i ≡ Some p → (at : Located most 0 blocks i)
+  pub piece_of : (i : ℕ) (p : BlockParts) → slice_get whole i ≡ Some p → (at : Located most 0 blocks i)
       × IsPieceAt most (renumbered_exit place at.block.exit) (more_pieces most at.block) (place at.number) at.behind p
   piece_of i p there =
       let at = located most 0 blocks i (omega (arith, slice_get_within whole i p there, length-split_from most place 0 blocks)) in
@@ -71,12 +71,9 @@ module _ (most : ℕ) (some : 0 < most) (blocks : List BlockParts) where
       let is : i ≡ place at.number + at.behind = omega (arith, at.is) in
       let many = length-pieces most exit (more_pieces most at.block) (place at.number) at.block.insts in (
         at,
-        piece_at most exit (more_pieces most at.block) (place at.number) at.block.insts (pieces_enough most (length at.block.insts) some) at.behind p
+        piece_at most exit (more_pieces most at.block) (place at.number) at.block.insts (omega arith) at.behind p
             (has_get (at_block at.number at.block at.there) at.behind (omega (arith, at.within, many)) (rw is at there)),
       )
-
-  pub pieces_short : (i : ℕ) (p : BlockParts) → slice_get whole i ≡ Some p → length p.insts ≤ most
-  pieces_short i p there = (piece_of i p there).1.short
 
   goes_below : (exit : Exit) → GoesBelow (length blocks) exit → GoesBelow (length whole) (renumbered_exit place exit)
   goes_below (Goto t) low = place_below t low
@@ -124,13 +121,6 @@ module _ (most : ℕ) (some : 0 < most) (blocks : List BlockParts) where
         let own = piece_owner at.number w.0 at.block at.there w.1 at.behind at.within in
         (w.0, w.1, same_Some (place w.0) o (sym own ∙ sym (ap (slice_get owned) here) ∙ is))
 
-    pieces_within : (i o : ℕ) (p : BlockParts) → slice_get whole i ≡ Some p → slice_get owned i ≡ Some o → BranchesWithin owned o p.exit
-    pieces_within i o p there is =
-        let q = piece_of i p there in
-        let w = owner_at i o q.0 is in
-        ⊎_elim (λ last. rw (last.1, ← w.2) (stays_within w.0 q.0.block.exit (owners.within q.0.number w.0 q.0.block q.0.there w.1)))
-        (λ other. rw other.1 tt) q.1.leaves
-
     continues_from : (i w n j : ℕ) (b : BlockParts) → slice_get blocks n ≡ Some b → j ≤ more_pieces most b → slice_get owner n ≡ Some w
         → i ≡ place n + j → Continues owned i (place w)
     continues_from zero w zero j b there le is e = ap place (owners.continues 0 w is) ∙ omega (arith, e)
@@ -148,16 +138,17 @@ module _ (most : ℕ) (some : 0 < most) (blocks : List BlockParts) where
         let here : i ≡ place m + more_pieces most a.0 = omega (arith, first_next most 0 blocks m a.0 b a.1 there, e) in
         ap (slice_get owned) here ∙ piece_owner m w a.0 a.1 before (more_pieces most a.0) (omega arith))) (cases_eq w (suc m))
 
-    pieces_continue : (i o : ℕ) → slice_get owned i ≡ Some o → Continues owned i o
-    pieces_continue i o is =
-        let long = length-owners_from most place blocks owner owners.lengths in
-        let at = located most 0 blocks i (omega (arith, slice_get_within owned i o is, long)) in
-        let w = owner_at i o at is in
-        rw (← w.2) (continues_from i w.0 at.number at.behind at.block at.there at.within w.1 (omega (arith, at.is)))
-
     pub pieces_owned : AreOwners whole owned
     pieces_owned = record {
       lengths = length-owners_from most place blocks owner owners.lengths ∙ sym (length-split_from most place 0 blocks);
-      continues = pieces_continue;
-      within = pieces_within;
+      continues = λ i o is.
+          let long = length-owners_from most place blocks owner owners.lengths in
+          let at = located most 0 blocks i (omega (arith, slice_get_within owned i o is, long)) in
+          let w = owner_at i o at is in
+          rw (← w.2) (continues_from i w.0 at.number at.behind at.block at.there at.within w.1 (omega (arith, at.is)));
+      within = λ i o p there is.
+          let q = piece_of i p there in
+          let w = owner_at i o q.0 is in
+          ⊎_elim (λ last. rw (last.1, ← w.2) (stays_within w.0 q.0.block.exit (owners.within q.0.number w.0 q.0.block q.0.there w.1)))
+          (λ other. rw other.1 tt) q.1.leaves;
     }
