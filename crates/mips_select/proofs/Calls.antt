@@ -6,7 +6,8 @@ use Rattle.std.specs.Prelude.{if◌then◌else◌, slice_get}
 use Rattle.std.proofs.Math.Seq.{get_or-append_seam}
 use Rattle.std.proofs.lemmas.List.{append-nil, length_push}
 use Rattle.std.proofs.lemmas.Bool.{eqb-false, false_from_ne_true, cond_both}
-use Rattle.std.proofs.lemmas.Option.{none-some, slice_get_read}
+use Rattle.std.proofs.lemmas.Option.{none-some, slice_get_within}
+use Rattle.std.proofs.lemmas.Bool.Decides.{nat_tests}
 use Rattle.words.specs.declared.operator.Operator.TheVariants.{Addu}
 use Rattle.words.specs.declared.width.Width.TheVariants.{Word}
 use Rattle.words.specs.Words.{wrap}
@@ -34,26 +35,29 @@ use Rattle.mips_emit.proofs.Stands.{Stored, stack_same, stack_top, Linked, Stand
 use Rattle.mips_emit.proofs.Operands.{stack_apart}
 use Rattle.mips_select.specs.declared.prologue.Direction.{Direction}
 use Rattle.mips_select.specs.declared.prologue.Direction.TheVariants.{Save, Restore}
-use Rattle.mips_select.specs.Code.{frame_bytes, frame_word, frame_words, frame_link, stack_step, epilogue}
-use Rattle.mips_select.proofs.Frames.{InStack, AreKept, saves_run, Restored, restores_run}
+use Rattle.mips_select.specs.Code.{frame_bytes, frame_word, frame_words, frame_link, link_offset, stack_step, epilogue}
+use Rattle.mips_select.proofs.Frames.{InStack, AreKept, still_in, saves_run, Restored, restores_run}
 use Rattle.mips_select.proofs.Lists.{get_before}
 
--- what a frame keeps: the registers that the function saves, and the link
-abbrev kept : Bool → Frame → List ℕ
-kept true f = f.saved.items
-kept false f = f.saved.items ++ 31 ∷ []
+-- the link, which a function with calls keeps behind the registers that it saves
+abbrev links : Bool → List ℕ
+links true = []
+links false = 31 ∷ []
 
--- one more register
-frame_more : (direction : Direction) (at : ℕ) (rs : List ℕ) (r : ℕ)
-    → frame_words direction at (rs ++ r ∷ []) ≡ frame_words direction at rs ++ frame_word direction r (at + 4 * length rs) ∷ []
-frame_more direction at [] r = (let e : at ≡ at + 4 * 0 = omega arith in ap (λ n. frame_word direction r n ∷ []) e)
-frame_more direction at (q ∷ rs) r = (let e : at + 4 + 4 * length rs ≡ at + 4 * length (q ∷ rs) = omega arith in cc (frame_more direction (at + 4) rs r))
+link_code : (direction : Direction) (leaf : Bool) (f : Frame) → frame_link direction leaf f ≡ frame_words direction (link_offset f) (links leaf)
+link_code direction leaf f = grind arith
 
--- the link, behind the registers that are saved
-kept_words : (direction : Direction) (leaf : Bool) (f : Frame)
-    → frame_words direction (4 * f.slots) f.saved.items ++ frame_link direction leaf f ≡ frame_words direction (4 * f.slots) (kept leaf f)
-kept_words direction true f = append-nil (frame_words direction (4 * f.slots) f.saved.items)
-kept_words direction false f = sym (frame_more direction (4 * f.slots) f.saved.items 31)
+link_long : (leaf : Bool) → length (links leaf) ≡ link_words leaf
+link_long leaf = grind arith
+
+link_first : (leaf : Bool) (j r : ℕ) → slice_get (links leaf) j ≡ Some r → (j ≡ 0) × (r ≡ 31)
+link_first leaf j r there = grind arith
+
+link_apart : (leaf : Bool) (q : ℕ) → q ≢ 31 → is_in (links leaf) q ≡ false
+link_apart leaf q ne = grind (arith, nat_tests)
+
+link_ok : (leaf : Bool) → AreKept (links leaf)
+link_ok leaf j r there = omega (arith, link_first leaf j r there)
 
 abbrev pub stored_frame : Bool → Frame → Places → Places → ℕ → Stored
 stored_frame leaf f slots aside link =
@@ -68,41 +72,14 @@ pub linked_frames : (ws : List Activation) (ls : List ℕ) (registers : Places) 
 linked_frames (a ∷ ws) (l ∷ ls) registers regs = λ leaf. absurd (true≢false (sym leaf))
 linked_frames _ _ registers regs = tt
 
-front_in : (xs : List ℕ) (x q : ℕ) → q ≢ x → is_in (xs ++ x ∷ []) q ≡ is_in xs q
-front_in [] x q ne = rw (ne_eqb q x ne) refl
-front_in (y ∷ xs) x q ne = rw (front_in xs x q ne) refl
-
 module _ {most : ℕ} {f : Frame} (ok : IsFrame most f) where
-  kept_case : (leaf : Bool) (j r : ℕ) → slice_get (kept leaf f) j ≡ Some r → (slice_get f.saved.items j ≡ Some r) ⊎ ((j ≡ length f.saved.items) × (r ≡ 31))
-  kept_case true j r there = inl there
-  kept_case false j r there =
-      each_push (λ j r. (slice_get f.saved.items j ≡ Some r) ⊎ ((j ≡ length f.saved.items) × (r ≡ 31))) f.saved.items 31 (λ j r there. inl there)
-      (inr (refl, refl)) j r there
-
-  -- and the link stands behind them
-  link_place : slice_get (kept false f) (length f.saved.items) ≡ Some 31
-  link_place = slice_get_read (kept false f) (length f.saved.items + 1) (length f.saved.items) 31 (sym (length_push f.saved.items 31)) (omega arith)
-      (sym (get_or-append_seam f.saved.items 31 [] 31))
-
-  kept_ok : (leaf : Bool) → AreKept (kept leaf f)
-  kept_ok leaf j r there = ⊎_elim (λ e. omega (arith, ok.saved j r e)) (λ e. omega (arith, e)) (kept_case leaf j r there)
+  saved_ok : AreKept f.saved.items
+  saved_ok j r there = omega (arith, ok.saved j r there)
 
   -- registers that no function saves
   saved_other : (q : ℕ) → (q < 16) ⊎ (24 ≤ q) → is_in f.saved.items q ≡ false
   saved_other q out = false_from_ne_true (is_in f.saved.items q) (λ e. let at = in_at f.saved.items q e in
       absurd (omega (arith, ok.saved at.0 q at.1, out)))
-
-  kept_in : (leaf : Bool) (q : ℕ) (b : Bool) → is_in f.saved.items q ≡ b → q ≢ 31 → is_in (kept leaf f) q ≡ b
-  kept_in true q b e ne = e
-  kept_in false q b e ne = front_in f.saved.items 31 q ne ∙ e
-
-  kept_front : (leaf : Bool) (j r : ℕ) → slice_get f.saved.items j ≡ Some r → slice_get (kept leaf f) j ≡ Some r
-  kept_front true j r e = e
-  kept_front false j r e = get_before f.saved.items (31 ∷ []) j r e
-
-  kept_length : (leaf : Bool) → length (kept leaf f) ≡ length f.saved.items + link_words leaf
-  kept_length true = omega arith
-  kept_length false = length-append f.saved.items (31 ∷ [])
 
   bytes_fit : (leaf : Bool) → frame_bytes leaf f ≤ most
   bytes_fit true = omega (arith, ok.fits)
@@ -156,16 +133,17 @@ module _ {most total : ℕ} {gs : List RGlobal} {starts : ℕ → ℕ} (small : 
         low = omega (arith, down, room, fits);
         high = omega (arith, down, up);
       } in
-      let long = kept_length ok leaf in
-      let saved = saves_run (4 * f.slots) (kept leaf f) in_stack (kept_ok ok leaf) (omega arith) (omega (arith, long)) in
-      let to : State = record s1 { memory = saved.memory } in
+      let long = link_long leaf in
+      let saved = saves_run (4 * f.slots) f.saved.items in_stack (saved_ok ok) (omega arith) (omega (arith, long)) in
+      let last = saves_run (link_offset f) (links leaf) (still_in in_stack refl refl saved.words) (link_ok leaf) (omega arith) (omega (arith, long)) in
+      let to : State = record s1 { memory = last.memory } in
       let link_same : low.regs 31 ≡ link = low.others 31 (omega arith) ∙ is_link in
       record {
         to = to;
-        runs = runs_then low.runs (rw (kept_words Save leaf f) saved.runs);
+        runs = runs_then low.runs (rw (link_code Save leaf f) (runs_then saved.runs last.runs));
         same = λ q lt. low.others q (omega (arith, lt));
         stands = record {
-          words = saved.words;
+          words = last.words;
           mapped = h.mapped;
           held = λ q w ql qh at. low.others q (omega (arith, qh)) ∙ h.held q w ql qh (grind arith);
           stack = (
@@ -174,22 +152,26 @@ module _ {most total : ℕ} {gs : List RGlobal} {starts : ℕ → ℕ} (small : 
               aside = λ j q w there at.
                   let range = ok.saved j q there in
                   let place : p + 4 * (f.slots + j) ≡ p + 4 * f.slots + 4 * j = omega arith in
-                  ap (word_at to) place ∙ saved.here j q (kept_front ok leaf j q there) ∙ low.others q (omega (arith, range))
+                  ap (word_at to) place ∙ last.others Word (p + 4 * f.slots + 4 * j) (λ i lt. omega (arith, slice_get_within f.saved.items j q there))
+                  ∙ saved.here j q there ∙ low.others q (omega (arith, range))
                   ∙ h.held q w (omega (arith, range)) (omega (arith, range)) at;
               link = λ calls.
-                  let place : p + 4 * (f.slots + length f.saved.items) ≡ p + 4 * f.slots + 4 * length f.saved.items = omega arith in
-                  ap (word_at to) place ∙ saved.here (length f.saved.items) 31 (rw calls (link_place ok)) ∙ link_same;
+                  let place : p + 4 * (f.slots + length f.saved.items) ≡ p + link_offset f + 4 * 0 = omega arith in
+                  ap (word_at to) place ∙ last.here 0 31 (rw calls refl) ∙ link_same;
               fits = fits;
               alone = alone;
             },
-            rw down (stack_same most (word_at s) (word_at to) (s.regs 29) fs (λ b le. saved.others Word b
-                (λ j lt. omega (arith, le, lt, down, long))) h.stack),
+            rw down (stack_same most (word_at s) (word_at to) (s.regs 29) fs (λ b le. last.others Word b (λ j lt. omega (arith, le, lt, down, long))
+                ∙ saved.others Word b (λ j lt. omega (arith, le, lt, down, long))) h.stack),
           );
           room = in_stack.low;
           aligned = in_stack.aligned;
           elements = λ a i w at.
               let inside = h.inside a i w at in
-              saved.others (width_of gs a) (address_of_place (place_in gs starts a i))
+              last.others (width_of gs a) (address_of_place (place_in gs starts a i))
+              (λ j lt. stack_apart (width_of gs a) (p + link_offset f + 4 * j) (place_in gs starts a i) total (omega (arith, in_stack.low))
+              (omega (arith, lt, long, down, up)) inside h.few)
+              ∙ saved.others (width_of gs a) (address_of_place (place_in gs starts a i))
               (λ j lt. stack_apart (width_of gs a) (p + 4 * f.slots + 4 * j) (place_in gs starts a i) total (omega (arith, in_stack.low))
               (omega (arith, lt, long, down, up)) inside h.few)
               ∙ h.elements a i w at;
@@ -220,11 +202,14 @@ module _ {most total : ℕ} {gs : List RGlobal} {starts : ℕ → ℕ} (small : 
       let size = frame_bytes leaf f in
       let up = stack_top most (word_at s) (s.regs 29 + size) fs h.stack.1 in
       let in_stack : InStack total size s = record { mapped = h.mapped; words = h.words; aligned = h.aligned; low = h.room; high = up } in
-      let back = restores_run (4 * f.slots) (kept leaf f) in_stack (kept_ok ok leaf) (omega arith) (omega (arith, kept_length ok leaf)) in
-      let s1 : State = record s { regs = back.regs } in
-      let other : (q : ℕ) → (q < 16) ⊎ (24 ≤ q) → q ≢ 31 → back.regs q ≡ s.regs q = λ q out ne.
-      back.others q (kept_in ok leaf q false (saved_other ok q out) ne) in
-      let pointer1 : back.regs 29 ≡ s.regs 29 = other 29 (inr (omega arith)) (omega arith) in
+      let long = link_long leaf in
+      let back = restores_run (4 * f.slots) f.saved.items in_stack (saved_ok ok) (omega arith) (omega (arith, long)) in
+      let pointer0 = back.others 29 (saved_other ok 29 (inr (omega arith))) in
+      let last = restores_run (link_offset f) (links leaf) (still_in in_stack pointer0 refl back.words) (link_ok leaf) (omega arith) (omega (arith, long)) in
+      let s1 : State = record s { regs = last.regs } in
+      let other : (q : ℕ) → (q < 16) ⊎ (24 ≤ q) → q ≢ 31 → last.regs q ≡ s.regs q = λ q out ne.
+      last.others q (link_apart leaf q ne) ∙ back.others q (saved_other ok q out) in
+      let pointer1 : last.regs 29 ≡ s.regs 29 = other 29 (inr (omega arith)) (omega arith) in
       let fits = bytes_fit ok leaf in
       let lift = shifted s1 size (s1.regs 29 + size) (pos size) (λ e. omega (arith, e)) (λ some. omega (arith, fits, small, pointer1, up)) in
       let to : State = record s1 { regs = lift.regs } in
@@ -232,13 +217,13 @@ module _ {most total : ℕ} {gs : List RGlobal} {starts : ℕ → ℕ} (small : 
       let size4 : size % 4 ≡ 0 = omega arith in
       record {
         to = to;
-        runs = runs_then (rw (kept_words Restore leaf f) back.runs) lift.runs;
+        runs = runs_then (rw (link_code Restore leaf f) (runs_then back.runs last.runs)) lift.runs;
         same = λ q lt. lift.others q (omega (arith, lt)) ∙ other q (inl lt) (omega (arith, lt));
-        link_is = lift.others 31 (omega arith) ∙ link_back back leaf refl;
+        link_is = lift.others 31 (omega arith) ∙ link_back back last leaf refl;
         stands = record {
-          words = run_words (map action_of (stack_step Restore size)) s1 to back.words (lift.runs).ends;
+          words = run_words (map action_of (stack_step Restore size)) s1 to last.words (lift.runs).ends;
           mapped = h.mapped;
-          held = λ q w ql qh at. lift.others q (omega (arith, qh)) ∙ held back q w ql qh (is_in f.saved.items q) refl at;
+          held = λ q w ql qh at. lift.others q (omega (arith, qh)) ∙ last.others q (link_apart leaf q (omega (arith, qh))) ∙ held back q w ql qh (is_in f.saved.items q) refl at;
           stack = rw pointer h.stack.1;
           room = omega (arith, pointer, h.room);
           aligned = omega (arith, pointer, h.aligned, size4);
@@ -253,13 +238,16 @@ module _ {most total : ℕ} {gs : List RGlobal} {starts : ℕ → ℕ} (small : 
       place j = omega arith
 
       -- the link comes from the frame, or was in register 31 all the time
-      link_back : (back : Restored (4 * f.slots) (kept leaf f) s) (b : Bool) → leaf ≡ b → back.regs 31 ≡ link
-      link_back back true is = back.others 31 (rw is (saved_other ok 31 (inr (omega arith)))) ∙ (h.linked is).link
-      link_back back false is = back.inside 31 link (rw is (also_in f.saved.items 31)) (λ j there.
-          ⊎_elim (λ e. absurd (omega (arith, ok.saved j 31 e))) (λ e. rw (e.0, place) ((h.stack.0).link is)) (kept_case ok leaf j 31 there))
+      link_back : (back : Restored (4 * f.slots) f.saved.items s) (last : Restored (link_offset f) (links leaf) (record s { regs = back.regs })) (b : Bool)
+          → leaf ≡ b → last.regs 31 ≡ link
+      link_back back last true is =
+          last.others 31 (rw is refl) ∙ back.others 31 (saved_other ok 31 (inr (omega arith))) ∙ (h.linked is).link
+      link_back back last false is = last.inside 31 link (rw is refl) (λ j there.
+          let here : back.regs 29 + link_offset f + 4 * j ≡ s.regs 29 + 4 * (f.slots + length f.saved.items) =
+          omega (arith, (link_first leaf j 31 there).0, back.others 29 (saved_other ok 29 (inr (omega arith)))) in
+          ap (word_at s) here ∙ (h.stack.0).link is)
 
-      held : (back : Restored (4 * f.slots) (kept leaf f) s) (q w : ℕ) → 4 ≤ q → q < 28 → (b : Bool) → is_in f.saved.items q ≡ b
+      held : (back : Restored (4 * f.slots) f.saved.items s) (q w : ℕ) → 4 ≤ q → q < 28 → (b : Bool) → is_in f.saved.items q ≡ b
           → (if b then aside q else r q) ≡ Some w → back.regs q ≡ w
-      held back q w ql qh false e at = back.others q (kept_in ok leaf q false e (omega (arith, qh))) ∙ h.held q w ql qh at
-      held back q w ql qh true e at = back.inside q w (kept_in ok leaf q true e (omega (arith, qh))) (λ j there.
-          ⊎_elim (λ e. rw place ((h.stack.0).aside j q w e at)) (λ e. absurd (omega (arith, e, qh))) (kept_case ok leaf j q there))
+      held back q w ql qh false e at = back.others q e ∙ h.held q w ql qh at
+      held back q w ql qh true e at = back.inside q w e (λ j there. rw place ((h.stack.0).aside j q w there at))

@@ -64,7 +64,7 @@ module _ {total n : ℕ} where
   )
 
   -- it stays so where neither the stack pointer nor what is mapped changes
-  still_in : {s t : State} → InStack total n s → t.regs 29 ≡ s.regs 29 → t.mapped ≡ s.mapped → IsWords t → InStack total n t
+  pub still_in : {s t : State} → InStack total n s → t.regs 29 ≡ s.regs 29 → t.mapped ≡ s.mapped → IsWords t → InStack total n t
   still_in h pointer mapped words =
       record { mapped = mapped ∙ h.mapped; words = words; aligned = rw pointer h.aligned; low = rw pointer h.low; high = rw pointer h.high }
 
