@@ -30,11 +30,6 @@ pub unnamed_more : (blocks : List RBlock) (i : ℕ) (table : List Naming) {table
 unnamed_more blocks i table within e before =
     cc (append_assoc table (Unnamed ∷ []) (unnamed (drop (i + 1) blocks)), at_drop_more unnamed blocks i (block_there blocks i within).0 within)
 
--- one more block
-pub block_room : (heads : ℕ → Head) (k i bound : ℕ) (blocks : List RBlock) {b : RBlock} → i < length blocks → b ≡ get_or blocks i b
-    → k + size_of_blocks heads (drop i blocks) ≤ bound → k + count heads b.exit ≤ bound
-block_room heads k i bound blocks within is le = omega (arith, drop_item (size_of_blocks heads) blocks i within is, le)
-
 -- there is a table for each function
 pub named_long : (tables : List (Vec Naming Global)) (funcs : List RFunc) → AreNamed tables funcs → length tables ≡ length funcs
 named_long tables funcs named = sym (length-map tables (λ (t : Vec Naming Global). t.items)) ∙ ap length named ∙ length-map funcs namings_of
@@ -48,10 +43,6 @@ named_here tables funcs i func table named lt func_is table_is =
     ∙ ap namings_of (sym func_is)
 
 -- one more function
-pub functions_room : (out i bound : ℕ) (funcs : List RFunc) {func : RFunc} → i < length funcs → func ≡ get_or funcs i func
-    → out + functions_size (drop i funcs) ≡ 2 + functions_size funcs → 2 + functions_size funcs ≤ bound → out + function_size func ≤ bound
-functions_room out i bound funcs within is same le = omega (arith, drop_item functions_size funcs i within is, same, le)
-
 pub functions_step : (l : Linking) (i : ℕ) {total : ℕ} (funcs : List RFunc) (fs : List Frame) (func : RFunc) (f : Frame)
     (out : List BlockParts) {out' all : List BlockParts} {k : ℕ} → i < length funcs → length fs ≡ length funcs → func ≡ get_or funcs i func
     → f ≡ get_or fs i f → k ≡ length out

@@ -42,9 +42,6 @@ bring_few t x = grind arith
 carry_few : (t : ℕ) (x : Source) → length (carry t x) ≤ 2
 carry_few t x = grind (arith, bring_few t x)
 
-finish_few : (o : Option Home) → length (finish o) ≤ 1
-finish_few o = grind arith
-
 put_few : (o : Option Home) (x : Source) → length (put_at o x) ≤ 8
 put_few o x = grind (arith, length-append {A = Plain}, bring_few, fetch_few)
 
@@ -57,37 +54,20 @@ arrive_few o t = grind (arith, length-append {A = Plain}, moved_few)
 
 -- and one where no slot has a copy
 arrive_one : (hs : List Home) (x t : ℕ) → HaveNoCopies hs → length (arrive (slice_get hs x) t) ≤ 1
-arrive_one hs x t none = by (slice_get hs x) refl
-  where
-    by : (o : Option Home) → slice_get hs x ≡ o → length (arrive o t) ≤ 1
-    by (Some (Reg r)) e = moved_few r t
-    by (Some (Copied r k)) e = absurd (none x r k e)
-    by _ e = omega arith
+arrive_one hs x t none = grind (arith, moved_few, none x)
 
 -- ---- operators
 
-operation_few : (op : Op) (d a b : ℕ) → length (operation op d a b) ≤ 2
-operation_few op d a b = grind arith
-
 op_few : (op : Op) (t d : ℕ) (x y : Operand) → length (op_code op t d x y) ≤ 6
-op_few op t d x y = grind (arith, length-append {A = Plain}, fetch_few, operation_few)
+op_few op t d x y = grind (arith, length-append {A = Plain}, fetch_few)
 
 -- ---- instructions
 
-scaled_few : (w : Width) (t q : ℕ) → length (scaled w t q) ≤ 1
-scaled_few w t q = grind arith
-
-sum_few : (t start q : ℕ) → length (base_sum t start q) ≤ 2
-sum_few t start q = grind arith
-
 element_few : (w : Width) (start : ℕ) (by : Reach) (x : Source) → length (element_code w start by x) ≤ 5
-element_few w start by x = grind (arith, length-append {A = Plain}, fetch_few, scaled_few, sum_few)
-
-const_few : (o : Option Home) (w : ℕ) → length (const_code o w) ≤ 8
-const_few o w = grind (arith, bring_few, put_few)
+element_few w start by x = grind (arith, length-append {A = Plain}, fetch_few)
 
 inst_few : (globals : List RGlobal) (starts : ℕ → ℕ) (at : Locations) (facts : Facts) (i : RInst) → length (inst_code globals starts at facts i) ≤ 8
-inst_few globals starts at facts i = grind (arith, length-append {A = Plain}, const_few, put_few, op_few, finish_few, element_few, fetch_few)
+inst_few globals starts at facts i = grind (arith, length-append {A = Plain}, put_few, op_few, element_few, fetch_few, bring_few)
 
 next_few : (c : Context) (facts : Facts) (o : Option Comparison) (i : RInst) → length (next_code c facts o i) ≤ 8
 next_few c facts o i = grind (arith, length-append {A = Plain}, inst_few, op_few, fetch_few)
@@ -105,9 +85,6 @@ words_many direction at (r ∷ rs) = omega (arith, words_many direction (at + 4)
 
 step_few : (direction : Direction) (n : ℕ) → length (stack_step direction n) ≤ 1
 step_few direction n = grind arith
-
-link_length : (direction : Direction) (leaf : Bool) (f : Frame) → length (frame_link direction leaf f) ≡ link_words leaf
-link_length direction leaf f = grind arith
 
 parameters_few : (most : ℕ) (at : Locations) (t x n : ℕ) → ((y u : ℕ) → length (arrive (at y) u) ≤ most) → length (parameters_code at t x n) ≤ most * n
 parameters_few most at t x zero each = omega arith
@@ -133,17 +110,11 @@ prologue_few false f n eight four alone =
 
 -- an epilogue, and two instructions for what is returned
 epilogue_few : (leaf : Bool) (f : Frame) → length f.saved.items ≤ 8 → length (epilogue leaf f) + 2 ≤ exit_most leaf
-epilogue_few leaf f eight = omega (arith, length-append {A = Plain}, words_many, step_few, link_length, eight)
+epilogue_few leaf f eight = grind (arith, length-append {A = Plain}, words_many, step_few)
 
 arguments_few : (at : Locations) (facts : Facts) (t : ℕ) (xs : List ℕ) → length (arguments_code at facts t xs) ≤ 2 * length xs
 arguments_few at facts t [] = omega arith
 arguments_few at facts t (x ∷ xs) = omega (arith, length-append {A = Plain}, carry_few t (operand at facts x), arguments_few at facts (suc t) xs)
-
-branch_few : (o : Option Comparison) (known : Option ℕ) (x : Source) → length (branch_code o known x) ≤ 2
-branch_few o known x = grind (arith, fetch_few)
-
-return_few : (b : Bool) (x : Source) → length (return_code b x) ≤ 2
-return_few b x = grind (arith, carry_few)
 
 -- what stands behind the block of a call
 abbrev pub behind_most : RExit → ℕ
@@ -152,9 +123,8 @@ behind_most _ = 0
 
 pub exit_few : (leaf : Bool) (f : Frame) (facts : Facts) (last : Last) (x : RExit) → length f.saved.items ≤ 8 → HasFewArguments x
     → length (exit_code leaf f facts last x) + behind_most x ≤ exit_most leaf
-exit_few leaf f facts last (Return None) eight few = omega (arith, epilogue_few leaf f eight)
-exit_few leaf f facts last _ eight few =
-    omega (arith, branch_few, arguments_few, return_few, epilogue_few leaf f eight, carry_few, length-append {A = Plain})
+exit_few leaf f facts last x eight few =
+    grind (arith, arguments_few, epilogue_few leaf f eight, carry_few, fetch_few, length-append {A = Plain})
 
 pub result_few : (at : Locations) (o : Option ℕ) → length (result_code at o) ≤ 2
 result_few at o = grind (arith, arrive_few)

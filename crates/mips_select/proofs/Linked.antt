@@ -154,23 +154,16 @@ module _ (l : Linking) (functions : List RFunc) (bound : ℕ) (entry_below : (g 
   )
   functions_go k _ _ has le = tt
 
-functions_joined : (l : Linking) (k : ℕ) (funcs : List RFunc) (fs : List Frame) → blocks_of (each_function l k funcs fs) ≡ functions_blocks l k funcs fs
-functions_joined l k (func ∷ funcs) (f ∷ fs) = ap (λ rest. function_blocks l k func f ++ rest) (functions_joined l (k + function_size func) funcs fs)
-functions_joined l k _ _ = refl
-
-pub functions_length : (l : Linking) (k : ℕ) (funcs : List RFunc) (fs : List Frame) → length fs ≡ length funcs
-    → length (functions_blocks l k funcs fs) ≡ functions_size funcs
-functions_length l k [] fs same = refl
-functions_length l k (func ∷ funcs) [] same = absurd (omega (arith, same))
-functions_length l k (func ∷ funcs) (f ∷ fs) same =
-    omega (arith, function_length, functions_length l (k + function_size func) funcs fs (omega (arith, same)), length-append {A = BlockParts})
-
-functions_owners : (l : Linking) (k : ℕ) (funcs : List RFunc) (fs : List Frame) → length fs ≡ length funcs
-    → owners_of k (each_function l k funcs fs) ≡ owners_from k funcs
-functions_owners l k [] fs same = refl
-functions_owners l k (func ∷ funcs) [] same = absurd (omega (arith, same))
-functions_owners l k (func ∷ funcs) (f ∷ fs) same =
-    cc (function_length l k func f, functions_owners l (k + function_size func) funcs fs (omega (arith, same)))
+-- one behind another they are the blocks of all, with their owners
+pub functions_joined : (l : Linking) (k : ℕ) (funcs : List RFunc) (fs : List Frame) → length fs ≡ length funcs
+    → (blocks_of (each_function l k funcs fs) ≡ functions_blocks l k funcs fs) × (owners_of k (each_function l k funcs fs) ≡ owners_from k funcs)
+    × (length (functions_blocks l k funcs fs) ≡ functions_size funcs)
+functions_joined l k [] fs same = (refl, refl, refl)
+functions_joined l k (func ∷ funcs) [] same = absurd (omega (arith, same))
+functions_joined l k (func ∷ funcs) (f ∷ fs) same =
+    let rest = functions_joined l (k + function_size func) funcs fs (omega (arith, same)) in
+    let long = function_length l k func f in
+    (cc (rest.0), cc (long, rest.1), omega (arith, long, rest.2, length-append {A = BlockParts}))
 
 starts_go : (bound main : ℕ) → main < bound → 1 < bound → (i : ℕ) (b : BlockParts) → slice_get (start_block main ∷ end_block ∷ []) i ≡ Some b
     → GoesWithin bound 0 2 b.exit
@@ -189,6 +182,7 @@ program_well h ok same =
     let below = λ (g : ℕ) (lt : g < length funcs). entries_below 2 funcs g lt in
     let main = below (h.rtl.now).main (slice_get_within funcs (h.rtl.now).main (ok.main).callee (ok.main).there) in
     let all = (start_block (entry_of funcs (h.rtl.now).main) ∷ end_block ∷ []) ∷ each_function l 2 funcs fs in
-    let size : length (blocks_of all) ≡ bound = omega (arith, ap length (functions_joined l 2 funcs fs), functions_length l 2 funcs fs same) in
-    rw (functions_joined l 2 funcs fs, functions_owners l 2 funcs fs same) at (functions_owned all (subst (λ n. AreFunctions n 0 all) (sym size)
+    let joined = functions_joined l 2 funcs fs same in
+    let size : length (blocks_of all) ≡ bound = omega (arith, ap length joined.0, joined.2) in
+    rw (joined.0, joined.1) at (functions_owned all (subst (λ n. AreFunctions n 0 all) (sym size)
     (record { by = starts_go bound _ main (omega arith) }, functions_go l funcs bound below 2 funcs fs ok.functions (omega arith))))

@@ -26,7 +26,7 @@ use Rattle.mips_select.specs.Whole.{functions_size, linking_for, program_blocks,
 use Rattle.mips_select.specs.Laws.{IsBeyond}
 use Rattle.mips_select.proofs.Lists.{all_at}
 use Rattle.mips_select.proofs.DataPlaces.{have_values, data_fits, data_ends}
-use Rattle.mips_select.proofs.Linked.{functions_length}
+use Rattle.mips_select.proofs.Linked.{functions_joined}
 
 -- ---- what a program's blocks are
 
@@ -67,7 +67,7 @@ functions_emittable p functions n ok is n_is = rw (is, n_is) (record {
 pub many_pieces : (h : Homed) → ArePlaced h → 2 + functions_size (h.rtl.now).functions ≤ length (unit_for h).blocks
 many_pieces h ok =
     let pieces = length-split_from BLOCK_INSTS (first_piece_of BLOCK_INSTS (program_blocks h)) 0 (program_blocks h) in
-    omega (arith, functions_length (linking_for h.rtl.now) 2 (h.rtl.now).functions h.frames.items ok.long, total_above BLOCK_INSTS (program_blocks h), pieces)
+    omega (arith, (functions_joined (linking_for h.rtl.now) 2 (h.rtl.now).functions h.frames.items ok.long).2, total_above BLOCK_INSTS (program_blocks h), pieces)
 
 -- a pass behind the homes that tells of a limit
 pub told_beyond : {T : Type 0} {h : Homed} {p : Program} {fault : SelectFault} (depth : ℕ) (r : Result T SelectFault) → IsErrAnd r (λ e. e ≡ fault)

@@ -3,11 +3,12 @@ use Rattle.std.proofs.lemmas.Option.{slice_get_read}
 use Rattle.mips_select.specs.Plans.{linking_of, planning_of}
 use Rattle.mips_select.specs.Whole.{size_of_blocks, blocks_from}
 use Rattle.mips_select.proofs.Lists.{drop_item, made_more, all_made}
-use Rattle.mips_select.proofs.Blocks.{block_room}
 use Rattle.mips_select.proofs.functions.emit_blocks.Goals as goal
 
 pub emit_block-requires-clause-number : goal.emit_block-requires-clause-number
-emit_block-requires-clause-number c = block_room _ c.loop-j.k c.loop-j.j _ c.args.blocks.now c.loop-j-test.true c.index-blocks-j.is c.loop-j.invariant.0
+emit_block-requires-clause-number c =
+    let sizes = drop_item (size_of_blocks (planning_of c.args.plan.now).heads) c.args.blocks.now c.loop-j.j c.loop-j-test.true c.index-blocks-j.is in
+    omega (arith, sizes, c.loop-j.invariant.0)
 
 pub emit_block-requires-clause-block : goal.emit_block-requires-clause-block
 emit_block-requires-clause-block c =

@@ -1,16 +1,15 @@
 use Rattle.std.proofs.Common.{◌∙◌, arith, drop, length, refl}
 use Rattle.std.proofs.lemmas.Option.{slice_get_read}
 use Rattle.mips_select.specs.Plans.{linking_of}
-use Rattle.mips_select.specs.Whole.{functions_blocks}
-use Rattle.mips_select.proofs.Blocks.{functions_room, functions_step, named_here, named_long}
-use Rattle.mips_select.proofs.Lists.{all_made}
+use Rattle.mips_select.specs.Whole.{functions_blocks, functions_size}
+use Rattle.mips_select.proofs.Blocks.{functions_step, named_here, named_long}
+use Rattle.mips_select.proofs.Lists.{all_made, drop_item}
 use Rattle.mips_select.proofs.functions.emit_functions.Goals as goal
 
 pub emit_function-requires-clause-number : goal.emit_function-requires-clause-number
 emit_function-requires-clause-number c =
-    let room = functions_room _ c.loop-i.i _ c.args.functions.now c.loop-i-test.true c.index-functions-i.is c.loop-i.invariant.0
-    c.requires.number in
-    omega (arith, room, c.len-k.ensures)
+    let sizes = drop_item functions_size c.args.functions.now c.loop-i.i c.loop-i-test.true c.index-functions-i.is in
+    omega (arith, sizes, c.loop-i.invariant.0, c.requires.number, c.len-k.ensures)
 
 pub bounds-namings-i : goal.bounds-namings-i
 bounds-namings-i c = omega (arith, named_long _ _ c.requires.named, c.loop-i-test.true)

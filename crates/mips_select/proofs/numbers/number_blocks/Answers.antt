@@ -1,7 +1,6 @@
 use Rattle.std.proofs.Common.{refl, arith}
 use Rattle.mips_select.specs.Heads.{heads_in}
 use Rattle.mips_select.specs.Whole.{size_of_blocks, numbers}
-use Rattle.mips_select.proofs.Blocks.{block_room}
 use Rattle.mips_select.proofs.Linked.{one_at_least}
 use Rattle.mips_select.proofs.Lists.{drop_item, made_more, all_made}
 use Rattle.mips_select.proofs.numbers.number_blocks.Goals as goal
@@ -9,14 +8,14 @@ use Rattle.mips_select.proofs.numbers.number_blocks.Goals as goal
 pub number-requires : goal.number-requires
 number-requires c =
     let heads = heads_in c.args.table.now in
-    let room = block_room heads c.loop-block.k c.loop-block.block-index _ c.args.blocks.now c.loop-block-test.true c.block-item.is c.loop-block.invariant.0 in
-    omega (arith, room, one_at_least heads c.block-item.result.exit)
+    let sizes = drop_item (size_of_blocks heads) c.args.blocks.now c.loop-block.block-index c.loop-block-test.true c.block-item.is in
+    omega (arith, sizes, c.loop-block.invariant.0, one_at_least heads c.block-item.result.exit)
 
 pub overflow_add-k : goal.overflow_add-k
 overflow_add-k c =
-    let room = block_room (heads_in c.args.table.now) c.loop-block.k c.loop-block.block-index _ c.args.blocks.now c.loop-block-test.true c.block-item.is
-    c.loop-block.invariant.0 in
-    omega (arith, room, c.count_of-k.ensures.value)
+    let heads = heads_in c.args.table.now in
+    let sizes = drop_item (size_of_blocks heads) c.args.blocks.now c.loop-block.block-index c.loop-block-test.true c.block-item.is in
+    omega (arith, sizes, c.loop-block.invariant.0, c.count_of-k.ensures.value)
 
 pub loop-block-preserved : goal.loop-block-preserved
 loop-block-preserved c =

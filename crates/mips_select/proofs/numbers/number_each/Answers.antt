@@ -1,7 +1,7 @@
 use Rattle.std.proofs.Common.{refl, ◌∙◌, arith}
 use Rattle.std.proofs.lemmas.Option.{slice_get_read}
 use Rattle.mips_select.specs.Whole.{functions_size, numbers_from}
-use Rattle.mips_select.proofs.Blocks.{functions_room, named_here, named_long}
+use Rattle.mips_select.proofs.Blocks.{named_here, named_long}
 use Rattle.mips_select.proofs.Lists.{drop_item, made_more, all_made}
 use Rattle.mips_select.proofs.numbers.number_each.Goals as goal
 
@@ -17,8 +17,9 @@ push_numbers-requires-clause-named c = c.as_slice-table.ensures.value
     ∙ named_here _ _ c.loop-i.i _ _ c.requires.named c.loop-i-test.true c.index-functions-i.is c.index-namings-i.is
 
 pub push_numbers-requires-clause-number : goal.push_numbers-requires-clause-number
-push_numbers-requires-clause-number c = functions_room c.loop-i.k c.loop-i.i _ c.args.functions.now c.loop-i-test.true
-    c.index-functions-i.is c.loop-i.invariant.0 c.requires.number
+push_numbers-requires-clause-number c =
+    let sizes = drop_item functions_size c.args.functions.now c.loop-i.i c.loop-i-test.true c.index-functions-i.is in
+    omega (arith, sizes, c.loop-i.invariant.0, c.requires.number)
 
 pub loop-i-preserved : goal.loop-i-preserved
 loop-i-preserved c =
@@ -32,9 +33,8 @@ loop-i-preserved c =
 
 pub overflow_add-k : goal.overflow_add-k
 overflow_add-k c =
-    let room = functions_room c.loop-i.k c.loop-i.i _ c.args.functions.now c.loop-i-test.true c.index-functions-i.is
-    c.loop-i.invariant.0 c.requires.number in
-    omega (arith, room, c.in_ok-size.ensures.size)
+    let sizes = drop_item functions_size c.args.functions.now c.loop-i.i c.loop-i-test.true c.index-functions-i.is in
+    omega (arith, sizes, c.loop-i.invariant.0, c.requires.number, c.in_ok-size.ensures.size)
 
 pub returns : goal.returns
 returns c = all_made (numbers_from c.loop-i.k) c.args.functions.now c.loop-i.i c.loop-i-test.false refl c.loop-i.invariant.1
