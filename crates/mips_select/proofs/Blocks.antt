@@ -1,5 +1,5 @@
 -- Blocks, their code and their pieces that are being made.
-use Rattle.std.proofs.Common.{◌≡◌, ℕ, ◌+◌, ◌<◌, ◌≤◌, List, [], ◌∷◌, ◌++◌, drop, get_or, length, length-append, sym, ap, ◌∙◌, arith, zero, suc, ◌-◌, ◌/◌, take}
+use Rattle.std.proofs.Common.{◌≡◌, ℕ, ◌+◌, ◌<◌, List, [], ◌∷◌, ◌++◌, drop, get_or, length, length-append, sym, ap, ◌∙◌, arith, zero, suc, ◌-◌, ◌/◌, take}
 use Rattle.std.proofs.lemmas.List.{append_assoc, at_drop_more, length-map, get_or-map, append-nil}
 use Rattle.std.specs.declared.alloc.Global.{Global}
 use Rattle.std.specs.declared.vec.Vec.{Vec}
@@ -9,10 +9,9 @@ use Rattle.rtl.specs.declared.block.RBlock.{RBlock}
 use Rattle.mips_homes.specs.declared.homed.Frame.{Frame}
 use Rattle.mips_select.specs.declared.heads.Naming.{Naming}
 use Rattle.mips_select.specs.declared.heads.Naming.TheVariants.{Unnamed}
-use Rattle.mips_select.specs.declared.heads.Head.{Head}
 use Rattle.mips_select.specs.Heads.{unnamed, namings_of, AreNamed, count}
 use Rattle.mips_select.specs.Plans.{Linking}
-use Rattle.mips_select.specs.Whole.{size_of_blocks, function_blocks, function_size, functions_size, functions_blocks}
+use Rattle.mips_select.specs.Whole.{function_blocks, function_size, functions_size, functions_blocks}
 use Rattle.mips_select.proofs.Places.{block_there, length-pieces}
 use Rattle.mips_select.proofs.Lists.{drop_item, made_more}
 use Rattle.mips_select.proofs.Linked.{function_length}

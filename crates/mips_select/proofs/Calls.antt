@@ -1,10 +1,8 @@
 -- What a prologue and an epilogue do.
 use Rattle.std.proofs.Common.{◌≡◌, ◌≢◌, ℕ, pos, negsuc, ◌+◌, ◌-◌, ◌*◌, ◌%◌, ◌<◌, ◌≤◌, ◌⊎◌, inl, inr, Bool, true, false, List, [], ◌∷◌}
-use Rattle.std.proofs.Common.{◌++◌, map, length, length-append, Some, None, refl, sym, ap, ◌∙◌, arith, nat_eq, true≢false, eqb-true}
-use Rattle.std.proofs.Common.{ne_eqb, ⊎_elim, ℤ}
+use Rattle.std.proofs.Common.{◌++◌, map, length, Some, None, refl, sym, ap, ◌∙◌, arith, nat_eq, true≢false, eqb-true}
+use Rattle.std.proofs.Common.{ℤ}
 use Rattle.std.specs.Prelude.{if◌then◌else◌, slice_get}
-use Rattle.std.proofs.Math.Seq.{get_or-append_seam}
-use Rattle.std.proofs.lemmas.List.{append-nil, length_push}
 use Rattle.std.proofs.lemmas.Bool.{eqb-false, false_from_ne_true, cond_both}
 use Rattle.std.proofs.lemmas.Option.{none-some, slice_get_within}
 use Rattle.std.proofs.lemmas.Bool.Decides.{nat_tests}
@@ -23,8 +21,6 @@ use Rattle.mblock.proofs.StateWords.{run_words}
 use Rattle.rtl.specs.declared.block.RGlobal.{RGlobal}
 use Rattle.mips_homes.specs.HomedRun.{Activation, is_in, is_callee_saved, registers_at_entry, registers_at_return}
 use Rattle.mips_homes.specs.declared.homed.Frame.{Frame}
-use Rattle.mips_homes.proofs.Located.{also_in}
-use Rattle.mips_homes.proofs.Choosing.{each_push}
 use Rattle.mips_homes.proofs.Chosen.{in_at}
 use Rattle.mips_emit.specs.declared.limits.TheConstants.{FRAME_BYTES}
 use Rattle.mips_emit.specs.Frames.{HaveNoCopies, link_words, IsFrame}
@@ -35,9 +31,8 @@ use Rattle.mips_emit.proofs.Stands.{Stored, stack_same, stack_top, Linked, Stand
 use Rattle.mips_emit.proofs.Operands.{stack_apart}
 use Rattle.mips_select.specs.declared.prologue.Direction.{Direction}
 use Rattle.mips_select.specs.declared.prologue.Direction.TheVariants.{Save, Restore}
-use Rattle.mips_select.specs.Code.{frame_bytes, frame_word, frame_words, frame_link, link_offset, stack_step, epilogue}
+use Rattle.mips_select.specs.Code.{frame_bytes, frame_words, frame_link, link_offset, stack_step, epilogue}
 use Rattle.mips_select.proofs.Frames.{InStack, AreKept, still_in, saves_run, Restored, restores_run}
-use Rattle.mips_select.proofs.Lists.{get_before}
 
 -- the link, which a function with calls keeps behind the registers that it saves
 abbrev links : Bool → List ℕ

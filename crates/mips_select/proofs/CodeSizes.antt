@@ -1,16 +1,16 @@
 -- At most how many machine instructions stand for an instruction, an exit and the beginning of a function.
-use Rattle.std.proofs.Common.{◌≡◌, ℕ, zero, suc, ◌+◌, ◌*◌, ◌≤◌, Bool, true, false, List, [], ◌∷◌, length, length-append, Option, Some, None, arith, refl}
+use Rattle.std.proofs.Common.{◌≡◌, ℕ, zero, suc, ◌+◌, ◌*◌, ◌≤◌, Bool, true, false, List, [], ◌∷◌, length, length-append, Option, arith, refl}
 use Rattle.std.specs.Prelude.{slice_get}
 use Rattle.words.specs.declared.width.Width.{Width}
 use Rattle.mips_isa.specs.declared.inst.Plain.{Plain}
 use Rattle.rtl.specs.declared.operator.Op.{Op}
 use Rattle.rtl.specs.declared.instruction.RInst.{RInst}
 use Rattle.rtl.specs.declared.instruction.RExit.{RExit}
-use Rattle.rtl.specs.declared.instruction.RExit.TheVariants.{Call, Return}
+use Rattle.rtl.specs.declared.instruction.RExit.TheVariants.{Call}
 use Rattle.rtl.specs.declared.block.RGlobal.{RGlobal}
 use Rattle.mips_homes.specs.declared.homed.Home.{Home}
 use Rattle.mips_homes.specs.declared.homed.Frame.{Frame}
-use Rattle.mips_homes.specs.declared.homed.Home.TheVariants.{Reg, Copied}
+use Rattle.mips_homes.specs.declared.homed.Home.TheVariants.{Reg}
 use Rattle.mips_emit.specs.Frames.{HaveNoCopies, link_words}
 use Rattle.mips_emit.specs.declared.location.Source.{Source}
 use Rattle.mips_emit.specs.declared.location.Source.TheVariants.{From}
@@ -19,15 +19,13 @@ use Rattle.mips_emit.specs.declared.comparison.Comparison.{Comparison}
 use Rattle.mips_emit.specs.declared.facts.Last.{Last}
 use Rattle.mips_emit.specs.Locations.{Locations, Facts, locations, learned, operand}
 use Rattle.mips_emit.specs.declared.element.Reach.{Reach}
-use Rattle.mips_emit.specs.Elements.{scaled, base_sum}
-use Rattle.mips_emit.specs.Code.{fetch, bring, carry, finish, put_at, arrive, operation}
+use Rattle.mips_emit.specs.Code.{fetch, bring, carry, put_at, arrive}
 use Rattle.mips_emit.specs.declared.operation.Operand.{Operand}
 use Rattle.mips_emit.specs.Code.{Context, op_code, element_code}
-use Rattle.mips_emit.specs.Code.{const_code, inst_code, arguments_code}
-use Rattle.mips_emit.specs.Comparisons.{next_code, insts_code, branch_code}
-use Rattle.mips_emit.specs.Comparisons.{return_code}
+use Rattle.mips_emit.specs.Code.{inst_code, arguments_code}
+use Rattle.mips_emit.specs.Comparisons.{next_code, insts_code}
 use Rattle.mips_select.specs.declared.prologue.Direction.{Direction}
-use Rattle.mips_select.specs.Code.{frame_words, frame_link, stack_step}
+use Rattle.mips_select.specs.Code.{frame_words, stack_step}
 use Rattle.mips_select.specs.Code.{parameters_code, prologue, epilogue, exit_code, result_code}
 use Rattle.mips_select.specs.Emittable.{HasFewArguments}
 
