@@ -89,8 +89,7 @@ module _ (l : Linking) (p : Planning) (eight : length p.frame.saved.items ≤ 8)
   -- the prologue is in a block of its own, or at the head of the first
   lead_few : (o : Option Naming) → (length (lead_blocks p (head_at 0 o)) ≤ 1)
       × (words_in (lead_blocks p (head_at 0 o)) + length (head_code p (head_at 0 o)) ≤ prologue_most p.leaf)
-  lead_few (Some (Called None)) = omega (arith, prologue_few p.leaf p.frame p.parameters eight four alone)
-  lead_few _ = omega (arith, prologue_few p.leaf p.frame p.parameters eight four alone)
+  lead_few o = grind (arith, prologue_few p.leaf p.frame p.parameters eight four alone)
 
 later_head : (p : Planning) (names : List Naming) (j : ℕ) → length (head_code p (head_at (suc j) (slice_get names (suc j)))) ≤ 2
 later_head p names j = grind (arith, nat_tests, result_few (locations p.frame))

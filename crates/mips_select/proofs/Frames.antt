@@ -151,16 +151,7 @@ AllDenote count s hs facts _ _ = ⊥
 
 -- an operand isn't in a register below its own
 operand_apart : (l : Option Home) (z k : Option ℕ) (t t' : ℕ) → t < t' → t < 8 → IsBehind l t' → IsApart t (deferred_source z (source k l))
-operand_apart l (Some w) k t t' lt few behind = cond_both (nat_eq w 0) Zero (Word w) (IsApart t) (λ _. tt) (λ _. tt)
-operand_apart (Some (Reg r)) None None t t' lt few behind = λ e. absurd (omega (arith, lt, behind, e))
-operand_apart (Some (Copied r j)) None None t t' lt few behind = λ e. absurd (omega (arith, few, behind, e))
-operand_apart l None (Some w) t t' lt few behind = cond_both (nat_eq w 0) Zero (known_source w l) (IsApart t) (λ _. tt) (λ _. by l behind)
-  where
-    by : (l : Option Home) → IsBehind l t' → IsApart t (known_source w l)
-    by (Some (Reg r)) behind = λ e. absurd (omega (arith, lt, behind, e))
-    by (Some (Copied r j)) behind = λ e. absurd (omega (arith, few, behind, e))
-    by _ behind = tt
-operand_apart _ None None t t' lt few behind = tt
+operand_apart l z k t t' lt few behind = grind (arith, nat_tests)
 
 -- the arguments that are left, after a register below theirs was written
 still_denote : (count : ℕ) (s : State) {t : ℕ} {f : ℕ → ℕ} (hs : List Home) (facts : Facts) (t' : ℕ) (xs vs : List ℕ) → t < t' → t < 8
@@ -175,10 +166,7 @@ still_denote count s hs facts t' _ _ lt few order same d = d
 
 -- a parameter's location isn't the register of a later one
 elsewhere : (l : Option Home) (t q : ℕ) → t < q → q < 8 → IsClear l t → IsElsewhere l q
-elsewhere (Some (Reg r)) t q lt few (inl le) = λ e. absurd (omega (arith, lt, le, e))
-elsewhere (Some (Reg r)) t q lt few (inr le) = λ e. absurd (omega (arith, few, le, e))
-elsewhere (Some (Copied r k)) t q lt few le = λ e. absurd (omega (arith, few, le, e))
-elsewhere _ t q lt few clear = tt
+elsewhere l t q lt few clear = grind arith
 
 module _ {most total : ℕ} {gs : List RGlobal} {starts : ℕ → ℕ} {g : Arrays} {fs : List Stored} where
   module _ {registers : Places} {top : Stored} (facts : Facts) where

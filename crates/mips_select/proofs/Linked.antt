@@ -85,16 +85,11 @@ module _ (l : Linking) (functions : List RFunc) (bound : ℕ) (entry_below : (g 
     place_below t lt = omega (arith, fits, place_from t lt)
 
     compared_goes : (form : Form) (x y : Source) (t e : ℕ) → IsFrom start size t → IsFrom start size e → GoesWithin bound start size (exit_by_form form x y t e)
-    compared_goes (Known true) x y t e at_t at_e = omega (arith, fits, at_t)
-    compared_goes (Known false) x y t e at_t at_e = omega (arith, fits, at_e)
-    compared_goes _ x y t e at_t at_e = (at_t, at_e)
+    compared_goes form x y t e at_t at_e = grind (arith, fits)
 
     branch_goes : (test : Option Comparison) (known : Option ℕ) (x : Source) (t e : ℕ) → IsFrom start size t → IsFrom start size e
         → GoesWithin bound start size (branch_exit test known x t e)
-    branch_goes None None x t e at_t at_e = (at_t, at_e)
-    branch_goes None (Some w) x t e at_t at_e =
-        cond_both (nat_eq w 0) e t (λ n. n < bound) (λ _. omega (arith, fits, at_e)) (λ _. omega (arith, fits, at_t))
-    branch_goes (Some m) known x t e at_t at_e = compared_goes m.form m.left.source m.right.source t e at_t at_e
+    branch_goes test known x t e at_t at_e = grind (arith, fits)
 
     -- the exits of the blocks that stand for a block
     exit_goes : (k : ℕ) (facts : Facts) (last : Last) (x : RExit) → IsExit functions blocks x → k + count p.heads x ≤ bound

@@ -1,8 +1,8 @@
 -- Exits go to blocks without head, but for calls that go on at the store of their result.
-use Rattle.std.proofs.Common.{◌≡◌, ℕ, zero, suc, List, [], ◌∷◌, Option, Some, None, refl, subst, nat_eq}
+use Rattle.std.proofs.Common.{arith, ◌≡◌, ℕ, zero, suc, List, [], ◌∷◌, Option, Some, None, refl, subst, nat_eq}
 use Rattle.std.specs.Prelude.{slice_get, slice_set}
 use Rattle.std.proofs.lemmas.Option.{same_Some, none-some}
-use Rattle.std.proofs.lemmas.Bool.{cond_both}
+use Rattle.std.proofs.lemmas.Bool.Decides.{nat_tests}
 use Rattle.rtl.specs.declared.instruction.RExit.{RExit}
 use Rattle.rtl.specs.declared.instruction.RExit.TheVariants.{Goto, Branch, Call, Return, Out}
 use Rattle.rtl.specs.declared.block.RBlock.{RBlock}
@@ -38,14 +38,10 @@ naming_by None o = Jumped
 naming_by (Some d) o = naming_with_call d o
 
 named_still : (w w' : Option (Option ℕ)) (o : Naming) → IsNamed (Some o) w → IsNamed (Some (naming_by w' (Some o))) w
-named_still w w' Unnamed q = absurd q
-named_still w None o q = tt
-named_still w (Some d) o q = tt
+named_still w w' o q = grind arith
 
 named_now : (w : Option (Option ℕ)) (o : Naming) → IsNamed (Some (naming_by w (Some o))) w
-named_now None o = tt
-named_now (Some d) Unnamed = refl
-named_now (Some d) _ = tt
+named_now w o = grind arith
 
 set_keeps : (w w' : Option (Option ℕ)) (l : List Naming) (t b : ℕ) → IsNamed (slice_get l b) w
     → IsNamed (slice_get (slice_set l t (naming_by w' (slice_get l t))) b) w
@@ -70,14 +66,10 @@ namings_keep w [] l b q = q
 namings_keep w (x ∷ bs) l b q = namings_keep w bs (note x.exit l) b (note_keeps w x.exit l b q)
 
 jump_head : (b : ℕ) (o : Option Naming) → IsNamed o None → head_at b o ≡ Bare
-jump_head b (Some Unnamed) q = absurd q
-jump_head b (Some (Called d)) q = absurd q
-jump_head b _ q = refl
+jump_head b o q = grind arith
 
 call_head : (d : Option ℕ) (b : ℕ) (o : Option Naming) → IsNamed o (Some d) → NamedCall d (head_at b o)
-call_head d b (Some Unnamed) q = absurd q
-call_head d b (Some (Called (Some e))) q = cond_both (nat_eq b 0) Bare (Takes e) (NamedCall d) (λ _. tt) (λ _. q)
-call_head d b _ q = tt
+call_head d b o q = grind (arith, nat_tests)
 
 jumped_after : (bs : List RBlock) (l : List Naming) (t : ℕ) → IsNamed (slice_get l t) None → heads_in (namings bs l) t ≡ Bare
 jumped_after bs l t q = jump_head t (slice_get (namings bs l) t) (namings_keep None bs l t q)

@@ -65,14 +65,10 @@ module _ (fs : List (List BlockParts)) (are : AreFunctions (length (blocks_of fs
       ap (slice_get owner) here ∙ owned.by (t - start) start (get_replicate n start (t - start) (omega (arith, at)))
 
   below : (start n : ℕ) → start + n ≤ bound → (exit : Exit) → GoesWithin bound start n exit → GoesBelow bound exit
-  below start n fits (BranchPair test a b t e) at = omega (arith, fits, at)
-  below start n fits (BranchZero test a t e) at = omega (arith, fits, at)
-  below start n fits _ at = at
+  below start n fits exit at = grind arith
 
   inside : (start n : ℕ) → HasAt owner start (replicate n start) → (exit : Exit) → GoesWithin bound start n exit → BranchesWithin owner start exit
-  inside start n owned (BranchPair test a b t e) at = (owned_from n owned t at.0, owned_from n owned e at.1)
-  inside start n owned (BranchZero test a t e) at = (owned_from n owned t at.0, owned_from n owned e at.1)
-  inside start n owned _ at = tt
+  inside start n owned exit at = grind (arith, owned_from n owned)
 
   -- the exit of a block keeps to its function
   exit_within : (i : ℕ) (b : BlockParts) (at : InFunction i) → slice_get blocks i ≡ Some b → GoesWithin bound at.start (length at.code) b.exit

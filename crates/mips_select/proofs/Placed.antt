@@ -55,9 +55,7 @@ module _ (func : RFunc) (f : Frame) (range : (x r k : ℕ) → slice_get f.homes
       (here (slice_get f.homes.items x) refl, in_order (suc t) xs (λ j y r e there. omega (arith, behind (suc j) y r e there)))
     where
       here : (o : Option Home) → slice_get f.homes.items x ≡ o → IsBehind o t
-      here (Some (Reg r)) e = omega (arith, behind 0 x r refl e)
-      here (Some (Copied r k)) e = (range x r k e).0
-      here _ e = tt
+      here o e = grind (arith, behind 0 x, range x)
 
   are_clear : (t x n : ℕ) → t ≡ 4 + x → x + n ≤ func.parameters → AreClear (locations f) t x n
   are_clear t x zero at few = tt

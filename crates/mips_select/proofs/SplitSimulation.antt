@@ -59,13 +59,7 @@ pub return_below : (links : ℕ → ℕ) (word bound k : ℕ) (bs : List BlockPa
     → ((i : ℕ) (b : BlockParts) → slice_get bs i ≡ Some b → GoesBelow bound b.exit) → (t : ℕ) → return_block_of links word k bs ≡ Some t → t < bound
 return_below links word bound k [] below t e = absurd (none-some t e)
 return_below links word bound k (b ∷ bs) below t e =
-    by_exit b.exit (links k == word) (below 0 b refl) (λ e. return_below links word bound (suc k) bs (λ i b there. below (suc i) b there) t e) e
-  where
-    by_exit : (exit : Exit) (found : Bool) → GoesBelow bound exit → (return_block_of links word (suc k) bs ≡ Some t → t < bound)
-        → call_return_of exit found (return_block_of links word (suc k) bs) ≡ Some t → t < bound
-    by_exit (Call g n) true low f e = subst (λ t. t < bound) (same_Some n t e) low.1
-    by_exit (Call g n) false low f e = f e
-    by_exit _ found low f e = f e
+    grind (arith, below 0 b refl, return_below links word bound (suc k) bs (λ i b there. below (suc i) b there) t)
 
 -- ---- each item of a long unit is one or more items of its pieces
 module _ (whole : List BlockParts) (links : ℕ → ℕ) where

@@ -76,12 +76,7 @@ module _ (most : ℕ) (some : 0 < most) (blocks : List BlockParts) where
       )
 
   goes_below : (exit : Exit) → GoesBelow (length blocks) exit → GoesBelow (length whole) (renumbered_exit place exit)
-  goes_below (Goto t) low = place_below t low
-  goes_below (BranchPair test a b t e) low = (place_below t low.0, place_below e low.1)
-  goes_below (BranchZero test a t e) low = (place_below t low.0, place_below e low.1)
-  goes_below (Call f n) low = (place_below f low.0, place_below n low.1)
-  goes_below (Out n) low = place_below n low
-  goes_below _ low = tt
+  goes_below exit low = grind (arith, place_below)
 
   pub pieces_linked : AreLinked blocks → AreLinked whole
   pieces_linked linked = record {
@@ -109,9 +104,7 @@ module _ (most : ℕ) (some : 0 < most) (blocks : List BlockParts) where
         ap (slice_get owned) here ∙ piece_owner t o b.0 b.1 is 0 (omega arith)
 
     stays_within : (o : ℕ) (exit : Exit) → BranchesWithin owner o exit → BranchesWithin owned (place o) (renumbered_exit place exit)
-    stays_within o (BranchPair test a b t e) in_o = (owner_moved t o in_o.0, owner_moved e o in_o.1)
-    stays_within o (BranchZero test a t e) in_o = (owner_moved t o in_o.0, owner_moved e o in_o.1)
-    stays_within o _ in_o = tt
+    stays_within o exit in_o = grind (arith, owner_moved)
 
     -- the owner of a piece is that of its block
     owner_at : (i o : ℕ) (at : Located most 0 blocks i) → slice_get owned i ≡ Some o → (w : ℕ) × (slice_get owner at.number ≡ Some w) × (place w ≡ o)
