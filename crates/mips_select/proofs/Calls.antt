@@ -77,8 +77,7 @@ module _ {most : ℕ} {f : Frame} (ok : IsFrame most f) where
       absurd (omega (arith, ok.saved at.0 q at.1, out)))
 
   bytes_fit : (leaf : Bool) → frame_bytes leaf f ≤ most
-  bytes_fit true = omega (arith, ok.fits)
-  bytes_fit false = ok.fits
+  bytes_fit leaf = grind (arith, ok.fits)
 
 -- the stack pointer goes down and up
 record Shifted (is : List Plain) (s : State) (p : ℕ) : Type 0 where

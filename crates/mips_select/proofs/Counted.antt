@@ -91,9 +91,6 @@ module _ (l : Linking) (p : Planning) (eight : length p.frame.saved.items ≤ 8)
       × (words_in (lead_blocks p (head_at 0 o)) + length (head_code p (head_at 0 o)) ≤ prologue_most p.leaf)
   lead_few o = grind (arith, prologue_few p.leaf p.frame p.parameters eight four alone)
 
-later_head : (p : Planning) (names : List Naming) (j : ℕ) → length (head_code p (head_at (suc j) (slice_get names (suc j)))) ≤ 2
-later_head p names j = grind (arith, nat_tests, result_few (locations p.frame))
-
 -- a function of n parameters
 record IsFew (n : ℕ) (bs : List RBlock) (f : Frame) : Type 0 where
   eight : length f.saved.items ≤ 8
@@ -111,7 +108,7 @@ function_few l n k (b ∷ bs) f is =
     let p = planning_in n k all f in
     let lead = lead_few l p is.eight is.four is.alone (slice_get (namings all (unnamed all)) 0) in
     let fits = (most l p is.eight is.four is.alone (is_leaf all)).1 in
-    let rest = rest_few l p is.eight is.four is.alone (later_head p (namings all (unnamed all))) (k + lead_in heads + count heads b.exit) 0 bs
+    let rest = rest_few l p is.eight is.four is.alone (λ j. grind (arith, nat_tests, result_few (locations p.frame))) (k + lead_in heads + count heads b.exit) 0 bs
     (λ i c e. is.few (suc i) c e) in
     let first = one_few l p is.eight is.four is.alone (k + lead_in heads) 0 b bs (is.few 0 b refl) rest in
     omega (arith, lead, fits, first, length-append {A = BlockParts}, words_append)

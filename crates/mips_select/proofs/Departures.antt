@@ -56,9 +56,6 @@ same_left l p facts known known' i m n _ is = absurd (none_asked (locations p.fr
 
 -- ---- where a call goes on
 
-passed_by : (e : Exit) (t : Bool) (n : ℕ) → (is_call e ≡ true → t ≡ true → ⊥) → call_return_of e t (Some n) ≡ Some n
-passed_by e t n no_call = grind arith
-
 -- the call of block k goes on where its link leads back
 module _ (links : ℕ → ℕ) (blocks : List BlockParts) (k f n : ℕ) (b : BlockParts) (tells : TellsApart links blocks) (there : slice_get blocks k ≡ Some b)
     (is : b.exit ≡ E.Call f n) where
@@ -68,8 +65,9 @@ module _ (links : ℕ → ℕ) (blocks : List BlockParts) (k f n : ℕ) (b : Blo
   found_from base (x ∷ bs) has low high = ⊎_elim
       (λ here. let same : Some b ≡ Some x = sym there ∙ ap (slice_get blocks) (sym here) ∙ has_head has in
       cc (same_Some b x same, eq-eqb (links base) (links k) (ap links here)))
-      (λ other. rw (found_from (suc base) bs (has_tail has) (omega (arith, low, other)) (omega (arith, high))) (passed_by x.exit (links base == links k) n
-      (λ call same. other (tells.apart base k x b (has_head has) there call (ap is_call is) (eqb-true (links base) (links k) same)))))
+      (λ other. let no_call = λ (call : is_call x.exit ≡ true) (same : (links base == links k) ≡ true).
+      other (tells.apart base k x b (has_head has) there call (ap is_call is) (eqb-true (links base) (links k) same)) in
+      rw (found_from (suc base) bs (has_tail has) (omega (arith, low, other)) (omega (arith, high))) (grind (arith, no_call)))
       (cases_eq base k)
 
   pub return_found : return_block_of links (links k) 0 blocks ≡ Some n

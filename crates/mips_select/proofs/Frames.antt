@@ -149,17 +149,13 @@ AllDenote count s hs facts [] [] = Unit {0}
 AllDenote count s hs facts (x ∷ xs) (v ∷ vs) = Denotes count s (operand (slice_get hs) facts x) v × AllDenote count s hs facts xs vs
 AllDenote count s hs facts _ _ = ⊥
 
--- an operand isn't in a register below its own
-operand_apart : (l : Option Home) (z k : Option ℕ) (t t' : ℕ) → t < t' → t < 8 → IsBehind l t' → IsApart t (deferred_source z (source k l))
-operand_apart l z k t t' lt few behind = grind (arith, nat_tests)
-
 -- the arguments that are left, after a register below theirs was written
 still_denote : (count : ℕ) (s : State) {t : ℕ} {f : ℕ → ℕ} (hs : List Home) (facts : Facts) (t' : ℕ) (xs vs : List ℕ) → t < t' → t < 8
     → AreInOrder (slice_get hs) t' xs → ((q : ℕ) → q ≢ t → f q ≡ s.regs q) → AllDenote count s hs facts xs vs
     → AllDenote count (record s { regs = f }) hs facts xs vs
 still_denote count s {t} {f} hs facts t' (x ∷ xs) (w ∷ ws) lt few order same d = (
   denotes_kept count t w (operand (slice_get hs) facts x) s f (λ e. absurd (omega (arith, few, e)))
-      (operand_apart (slice_get hs x) (deferred_at facts.deferred (slice_get hs x)) (known_in facts x) t t' lt few order.0) same d.0,
+      (grind (arith, nat_tests)) same d.0,
   still_denote count s hs facts (suc t') xs ws (omega (arith, lt)) few order.1 same d.1,
 )
 still_denote count s hs facts t' _ _ lt few order same d = d

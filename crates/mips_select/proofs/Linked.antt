@@ -84,24 +84,10 @@ module _ (l : Linking) (functions : List RFunc) (bound : ℕ) (entry_below : (g 
     place_below : (t : ℕ) → t < blocks → p.place t < bound
     place_below t lt = omega (arith, fits, place_from t lt)
 
-    compared_goes : (form : Form) (x y : Source) (t e : ℕ) → IsFrom start size t → IsFrom start size e → GoesWithin bound start size (exit_by_form form x y t e)
-    compared_goes form x y t e at_t at_e = grind (arith, fits)
-
-    branch_goes : (test : Option Comparison) (known : Option ℕ) (x : Source) (t e : ℕ) → IsFrom start size t → IsFrom start size e
-        → GoesWithin bound start size (branch_exit test known x t e)
-    branch_goes test known x t e at_t at_e = grind (arith, fits)
-
     -- the exits of the blocks that stand for a block
     exit_goes : (k : ℕ) (facts : Facts) (last : Last) (x : RExit) → IsExit functions blocks x → k + count p.heads x ≤ bound
         → GoesWithin bound start size (exit_of l p.placing facts last (next_of p k x) x)
-    exit_goes k facts last (Goto b) ok le = place_below b ok
-    exit_goes k facts last (Branch c t e) ok le = branch_goes (tested last.comparison c) (known_in facts c)
-        (last_operand (locations p.frame) facts last.fresh c) (p.place t) (p.place e)
-        (place_from t (ok.1).0) (place_from e (ok.1).1)
-    exit_goes k facts last (Call g xs d next) ok le =
-        (entry_below g (slice_get_within functions g (ok.0).callee (ok.0).there), grind (arith, le, place_below next ((ok.1).1).1))
-    exit_goes k facts last (Return o) ok le = tt
-    exit_goes k facts last (Out x next) ok le = place_below next ok.1
+    exit_goes k facts last x ok le = grind (arith, place_from, entry_below, slice_get_within functions)
 
     behind_goes : (x : RExit) → IsExit functions blocks x → All Goes (behind p x)
     behind_goes (Call g xs d next) ok = cond_both (resumes d (p.heads next)) [] (after_block p.frame d (p.place next) ∷ []) (All Goes)

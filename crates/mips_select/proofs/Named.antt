@@ -37,21 +37,15 @@ abbrev naming_by : Option (Option ℕ) → Option Naming → Naming
 naming_by None o = Jumped
 naming_by (Some d) o = naming_with_call d o
 
-named_still : (w w' : Option (Option ℕ)) (o : Naming) → IsNamed (Some o) w → IsNamed (Some (naming_by w' (Some o))) w
-named_still w w' o q = grind arith
-
-named_now : (w : Option (Option ℕ)) (o : Naming) → IsNamed (Some (naming_by w (Some o))) w
-named_now w o = grind arith
-
 set_keeps : (w w' : Option (Option ℕ)) (l : List Naming) (t b : ℕ) → IsNamed (slice_get l b) w
     → IsNamed (slice_get (slice_set l t (naming_by w' (slice_get l t))) b) w
-set_keeps w w' (x ∷ l) zero zero q = named_still w w' x q
+set_keeps w w' (x ∷ l) zero zero q = grind arith
 set_keeps w w' (x ∷ l) (suc t) (suc b) q = set_keeps w w' l t b q
 set_keeps w w' _ _ _ q = q
 
 set_makes : (w : Option (Option ℕ)) (l : List Naming) (t : ℕ) → IsNamed (slice_get (slice_set l t (naming_by w (slice_get l t))) t) w
 set_makes w [] t = tt
-set_makes w (x ∷ l) zero = named_now w x
+set_makes w (x ∷ l) zero = grind arith
 set_makes w (x ∷ l) (suc t) = set_makes w l t
 
 note_keeps : (w : Option (Option ℕ)) (x : RExit) (l : List Naming) (b : ℕ) → IsNamed (slice_get l b) w → IsNamed (slice_get (note x l) b) w
@@ -65,14 +59,8 @@ namings_keep : (w : Option (Option ℕ)) (bs : List RBlock) (l : List Naming) (b
 namings_keep w [] l b q = q
 namings_keep w (x ∷ bs) l b q = namings_keep w bs (note x.exit l) b (note_keeps w x.exit l b q)
 
-jump_head : (b : ℕ) (o : Option Naming) → IsNamed o None → head_at b o ≡ Bare
-jump_head b o q = grind arith
-
-call_head : (d : Option ℕ) (b : ℕ) (o : Option Naming) → IsNamed o (Some d) → NamedCall d (head_at b o)
-call_head d b o q = grind (arith, nat_tests)
-
 jumped_after : (bs : List RBlock) (l : List Naming) (t : ℕ) → IsNamed (slice_get l t) None → heads_in (namings bs l) t ≡ Bare
-jumped_after bs l t q = jump_head t (slice_get (namings bs l) t) (namings_keep None bs l t q)
+jumped_after bs l t q = grind (arith, namings_keep None bs l t q)
 
 pub named : (bs : List RBlock) (l : List Naming) (i : ℕ) (block : RBlock) → slice_get bs i ≡ Some block → Named (heads_in (namings bs l)) block.exit
 named [] l i block there = absurd (none-some block there)
@@ -88,5 +76,4 @@ named (x ∷ bs) l zero block there = subst (λ (block : RBlock). Named (heads_i
     here (Out y t) = jumped_after bs (note (Out y t) l) t (set_makes None l t)
     here (Return o) = tt
     here (Call g xs d t) =
-        let l' = note (Call g xs d t) l in
-        call_head d t (slice_get (namings bs l') t) (namings_keep (Some d) bs l' t (set_makes (Some d) l t))
+        grind (arith, nat_tests, namings_keep (Some d) bs (note (Call g xs d t) l) t (set_makes (Some d) l t))

@@ -64,12 +64,6 @@ module _ (fs : List (List BlockParts)) (are : AreFunctions (length (blocks_of fs
       let here : t ≡ start + (t - start) = omega (arith, at) in
       ap (slice_get owner) here ∙ owned.by (t - start) start (get_replicate n start (t - start) (omega (arith, at)))
 
-  below : (start n : ℕ) → start + n ≤ bound → (exit : Exit) → GoesWithin bound start n exit → GoesBelow bound exit
-  below start n fits exit at = grind arith
-
-  inside : (start n : ℕ) → HasAt owner start (replicate n start) → (exit : Exit) → GoesWithin bound start n exit → BranchesWithin owner start exit
-  inside start n owned exit at = grind (arith, owned_from n owned)
-
   -- the exit of a block keeps to its function
   exit_within : (i : ℕ) (b : BlockParts) (at : InFunction i) → slice_get blocks i ≡ Some b → GoesWithin bound at.start (length at.code) b.exit
   exit_within i b at there = at.function.by at.behind b (has_get at.blocks_at at.behind at.within (rw at.is at there))
@@ -90,12 +84,12 @@ module _ (fs : List (List BlockParts)) (are : AreFunctions (length (blocks_of fs
   functions_owned = (
     record {
       by = λ i b there. let at = place i (slice_get_within blocks i b there) in
-          below at.start (length at.code) at.fits b.exit (exit_within i b at there);
+          grind (arith, at.fits, exit_within i b at there);
     },
     record {
       lengths = length-owners_of 0 fs;
       continues = λ i o here. goes_on_from i o (place i (omega (arith, slice_get_within owner i o here, length-owners_of 0 fs))) here;
       within = λ i o b there here. let at = place i (slice_get_within blocks i b there) in
-          rw (← same_owner i o at here) (inside at.start (length at.code) at.owned b.exit (exit_within i b at there));
+          rw (← same_owner i o at here) (grind (arith, owned_from (length at.code) at.owned, exit_within i b at there));
     },
   )

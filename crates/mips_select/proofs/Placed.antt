@@ -52,19 +52,11 @@ module _ (func : RFunc) (f : Frame) (range : (x r k : ℕ) → slice_get f.homes
       → AreInOrder (locations f) t xs
   in_order t [] behind = tt
   in_order t (x ∷ xs) behind =
-      (here (slice_get f.homes.items x) refl, in_order (suc t) xs (λ j y r e there. omega (arith, behind (suc j) y r e there)))
-    where
-      here : (o : Option Home) → slice_get f.homes.items x ≡ o → IsBehind o t
-      here o e = grind (arith, behind 0 x, range x)
+      (grind (arith, behind 0 x, range x), in_order (suc t) xs (λ j y r e there. omega (arith, behind (suc j) y r e there)))
 
   are_clear : (t x n : ℕ) → t ≡ 4 + x → x + n ≤ func.parameters → AreClear (locations f) t x n
   are_clear t x zero at few = tt
-  are_clear t x (suc n) at few = (here (slice_get f.homes.items x) refl, are_clear (suc t) (suc x) n (omega (arith, at)) (omega (arith, few)))
-    where
-      here : (o : Option Home) → slice_get f.homes.items x ≡ o → IsClear o t
-      here (Some (Reg r)) e = ⊎_elim inr (λ is. inl (omega (arith, is.1 (omega (arith, few)), at))) (seated x r e)
-      here (Some (Copied r k)) e = (range x r k e).0
-      here _ e = tt
+  are_clear t x (suc n) at few = (grind (arith, seated x, range x), are_clear (suc t) (suc x) n (omega (arith, at)) (omega (arith, few)))
 
   ordered : (functions : List RFunc) (globals blocks : ℕ) (x : RExit) → ((y : ℕ) → exit_reach x y ≤ blocks_reach func.blocks.items y)
       → All (programs.IsFunction functions globals) functions → programs.IsExit functions blocks x → IsOrdered f x
@@ -95,20 +87,7 @@ Allows p x = Named p.heads x × IsFine p.leaf x × IsOrdered p.frame x
 module _ (whole : List BlockParts) (l : Linking) where
   goes_on : (p : Planning) (k : ℕ) (x : RExit) (rest : List BlockParts) → Allows p x → HasAt whole (suc k) (behind p x ++ rest)
       → GoesOn whole l p.placing (heads_code p) (next_of p k x) x
-  goes_on p k (Call g xs d next) rest ok has = go d (p.heads next) refl ok.0 has
-    where
-      go : (d : Option ℕ) (x : Head) → p.heads next ≡ x → NamedCall d x → HasAt whole (suc k)
-          ((if resumes d x then [] else after_block p.frame d (p.place next) ∷ []) ++ rest)
-          → GoesOn whole l p.placing (heads_code p) (if resumes d x then p.place next else suc k) (Call g xs d next)
-      go None Bare e names has = ((ok.1 refl, ok.2), inr (refl, ap (head_code p) e))
-      go (Some d) Bare e names has = ((ok.1 refl, ok.2), inl (has_head has, ap (head_code p) e))
-      go d Enters e names has = absurd names
-      go None (Takes c) e names has = absurd (none-some c names)
-      go (Some d) (Takes c) e names has = ((ok.1 refl, ok.2), inr (refl, ap (head_code p) e ∙ ap (result_code (locations p.frame)) (sym names)))
-  goes_on p k (Goto b) rest ok has = ap (head_code p) ok.0
-  goes_on p k (Branch c t e) rest ok has = (ap (head_code p) (ok.0).0, ap (head_code p) (ok.0).1)
-  goes_on p k (Return o) rest ok has = tt
-  goes_on p k (Out x next) rest ok has = ap (head_code p) ok.0
+  goes_on p k x rest ok has = grind (arith, has_head)
 
   -- block i of a function is block b of those from j on
   placed : (p : Planning) (k j : ℕ) (bs : List RBlock) → HasAt whole k (blocks_from l p k j bs)
@@ -152,11 +131,7 @@ first_place k [] e = let no : Bare ≡ Enters = e in cc
 first_place k (b ∷ bs) e = ap (λ x. k + lead_of x) e ∙ omega arith
 
 no_take : (bs : List RBlock) (d : ℕ) → heads_of bs 0 ≡ Takes d → ⊥
-no_take bs d e = go (slice_get (namings bs (unnamed bs)) 0) e
-  where
-    go : (o : Option Naming) → head_at 0 o ≡ Takes d → ⊥
-    go (Some (Called None)) e = cc
-    go _ e = cc
+no_take bs d e = grind arith
 
 pub program_selected : (h : Homed) (depth : ℕ) → IsProgram h.rtl.now → ArePlaced h → FramesFit h.rtl.now depth → IsSelected h depth (program_blocks h)
 program_selected h depth ok choices fit = record {

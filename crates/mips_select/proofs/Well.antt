@@ -75,13 +75,10 @@ module _ (most : ℕ) (some : 0 < most) (blocks : List BlockParts) where
             (has_get (at_block at.number at.block at.there) at.behind (omega (arith, at.within, many)) (rw is at there)),
       )
 
-  goes_below : (exit : Exit) → GoesBelow (length blocks) exit → GoesBelow (length whole) (renumbered_exit place exit)
-  goes_below exit low = grind (arith, place_below)
-
   pub pieces_linked : AreLinked blocks → AreLinked whole
   pieces_linked linked = record {
     by = λ i p there. let q = piece_of i p there in ⊎_elim
-        (λ last. rw last.1 (goes_below q.0.block.exit (linked.by q.0.number q.0.block q.0.there)))
+        (λ last. rw last.1 (grind (arith, place_below, linked.by q.0.number q.0.block q.0.there)))
         (λ other. rw other.1 (omega (arith, piece_there q.0.number q.0.block q.0.there (suc q.0.behind) (omega (arith, other.0))))) q.1.leaves;
   }
 
@@ -102,9 +99,6 @@ module _ (most : ℕ) (some : 0 < most) (blocks : List BlockParts) where
         let b = block_there blocks t (omega (arith, low, owners.lengths)) in
         let here : place t ≡ place t + 0 = omega arith in
         ap (slice_get owned) here ∙ piece_owner t o b.0 b.1 is 0 (omega arith)
-
-    stays_within : (o : ℕ) (exit : Exit) → BranchesWithin owner o exit → BranchesWithin owned (place o) (renumbered_exit place exit)
-    stays_within o exit in_o = grind (arith, owner_moved)
 
     -- the owner of a piece is that of its block
     owner_at : (i o : ℕ) (at : Located most 0 blocks i) → slice_get owned i ≡ Some o → (w : ℕ) × (slice_get owner at.number ≡ Some w) × (place w ≡ o)
@@ -142,6 +136,6 @@ module _ (most : ℕ) (some : 0 < most) (blocks : List BlockParts) where
       within = λ i o p there is.
           let q = piece_of i p there in
           let w = owner_at i o q.0 is in
-          ⊎_elim (λ last. rw (last.1, ← w.2) (stays_within w.0 q.0.block.exit (owners.within q.0.number w.0 q.0.block q.0.there w.1)))
+          ⊎_elim (λ last. rw (last.1, ← w.2) (grind (arith, owner_moved, owners.within q.0.number w.0 q.0.block q.0.there w.1)))
           (λ other. rw other.1 tt) q.1.leaves;
     }
