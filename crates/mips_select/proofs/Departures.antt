@@ -50,9 +50,7 @@ pub same_left : (l : Linking) (p : Placing) (facts known known' : Facts) (i : RI
     → comparison_of (locations p.frame) facts (asked_of x) i ≡ Some m
     → (exit_of l p known (last_with (Some m) None) n x ≡ exit_of l p known' (last_with (Some m) None) n x)
     × (exit_code p.leaf p.frame known (last_with (Some m) None) x ≡ exit_code p.leaf p.frame known' (last_with (Some m) None) x)
-same_left l p facts known known' i m n (Branch c t e) is = rw (asked_result (locations p.frame) facts c i m is) (refl, refl)
-same_left l p facts known known' i m n (Return (Some x)) is = rw (returned_result (locations p.frame) facts x i m is) (refl, refl)
-same_left l p facts known known' i m n _ is = absurd (none_asked (locations p.frame) facts i m is)
+same_left l p facts known known' i m n x is = grind (arith, asked_result, returned_result, none_asked (locations p.frame) facts i m)
 
 -- ---- where a call goes on
 

@@ -98,12 +98,8 @@ module _ {total n : ℕ} where
 
       here : (rest : Saved (at + 4) rs (set_word s (s.regs 29 + at) (s.regs r))) → is_open Word s.mapped (s.regs 29 + at) ≡ true
           → (j q : ℕ) → slice_get (r ∷ rs) j ≡ Some q → word_at (record s { memory = rest.memory }) (s.regs 29 + at + 4 * j) ≡ s.regs q
-      here rest ok zero q there = cc (
-        first,
-        rest.others Word (s.regs 29 + at) (λ j lt. omega arith),
-        word_here s (s.regs 29 + at) (s.regs r) ok ((h.words).regs r),
-        same_Some r q there,
-      )
+      here rest ok zero q there =
+          grind (arith, rest.others Word (s.regs 29 + at) (λ j lt. omega arith), word_here s (s.regs 29 + at) (s.regs r) ok ((h.words).regs r))
       here rest ok (suc j) q there = rw (next j) (rest.here j q there)
 
   pub restores_run : (at : ℕ) (rs : List ℕ) {s : State} → InStack total n s → AreKept rs → at % 4 ≡ 0 → at + 4 * length rs ≤ n → Restored at rs s
@@ -207,12 +203,7 @@ module _ {most total : ℕ} {gs : List RGlobal} {starts : ℕ → ℕ} {g : Arra
       where
         by : {f : ℕ → ℕ} {h : Stands most total gs starts registers g (top ∷ fs) (record s { regs = f })} → f t ≡ v → (more : Arguments h (suc t) xs vs)
             → (j w : ℕ) → slice_get (v ∷ vs) j ≡ Some w → more.regs (t + j) ≡ w
-        by here more zero w at =
-            let place : t + 0 ≡ t = omega arith in
-            rw place (more.others t (omega arith) ∙ here ∙ same_Some v w at)
-        by here more (suc j) w at =
-            let place : t + suc j ≡ suc t + j = omega arith in
-            rw place (more.here j w at)
+        by here more j w at = grind (arith, more.others t, more.here)
     arguments above t _ _ h low high order d = absurd d
 
   module _ (P : Run → Type 0) (out : List ℕ) (failed : P (Failed out)) where

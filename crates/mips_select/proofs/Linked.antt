@@ -148,9 +148,7 @@ functions_joined l k (func ∷ funcs) (f ∷ fs) same =
 
 starts_go : (bound main : ℕ) → main < bound → 1 < bound → (i : ℕ) (b : BlockParts) → slice_get (start_block main ∷ end_block ∷ []) i ≡ Some b
     → GoesWithin bound 0 2 b.exit
-starts_go bound main lt low zero b there = rw (← same_Some _ b there) (lt, low)
-starts_go bound main lt low (suc zero) b there = rw (← same_Some _ b there) tt
-starts_go bound main lt low (suc (suc i)) b there = absurd (none-some b there)
+starts_go bound main lt low i b there = grind arith
 
 -- every block that an exit names exists, and branches stay in their functions
 pub program_well : (h : Homed) → IsProgram h.rtl.now → length h.frames.items ≡ length (h.rtl.now).functions

@@ -72,10 +72,7 @@ module _ (fs : List (List BlockParts)) (are : AreFunctions (length (blocks_of fs
   same_owner i o at here = same_Some at.start o (sym (owned_from (length at.code) at.owned i (omega (arith, at.is, at.within))) ∙ here)
 
   goes_on_from : (i o : ℕ) → InFunction i → slice_get owner i ≡ Some o → Continues owner i o
-  goes_on_from zero o at here = omega (arith, at.is, same_owner zero o at here)
-  goes_on_from (suc i) o at here = λ other.
-      let same = same_owner (suc i) o at here in
-      owned_from (length at.code) at.owned i (omega (arith, at.is, at.within, same, other)) ∙ ap Some same
+  goes_on_from i o at here = grind (arith, same_owner i o at here, owned_from (length at.code) at.owned)
 
   place : (i : ℕ) → i < length (blocks_of fs) → InFunction i
   place i lt = in_function 0 fs (omega arith) are (has_whole blocks) (has_whole owner) i i (omega arith) lt

@@ -80,10 +80,8 @@ pub last_apart : (most k : ℕ) (bs : List BlockParts) (m n : ℕ) → m < lengt
     → slice_index (lasts most k bs) m ≡ slice_index (lasts most k bs) n → m ≡ n
 last_apart most k [] m n m_lt n_lt same = absurd (omega (arith, m_lt))
 last_apart most k (b ∷ bs) zero zero m_lt n_lt same = refl
-last_apart most k (b ∷ bs) zero (suc n) m_lt n_lt same =
-    absurd (omega (arith, last_above most (k + count_of most b) bs n (omega (arith, n_lt)), same))
-last_apart most k (b ∷ bs) (suc m) zero m_lt n_lt same =
-    absurd (omega (arith, last_above most (k + count_of most b) bs m (omega (arith, m_lt)), same))
+last_apart most k (b ∷ bs) zero (suc n) m_lt n_lt same = absurd (omega (arith, last_above most (k + count_of most b) bs n))
+last_apart most k (b ∷ bs) (suc m) zero m_lt n_lt same = absurd (omega (arith, last_above most (k + count_of most b) bs m))
 last_apart most k (b ∷ bs) (suc m) (suc n) m_lt n_lt same =
     ap suc (last_apart most (k + count_of most b) bs m n (omega (arith, m_lt)) (omega (arith, n_lt)) same)
 
@@ -137,15 +135,7 @@ pub piece_at : (most : ℕ) (exit : Exit) (more k : ℕ) (insts : List Plain) �
     → slice_get (pieces most exit more k insts) j ≡ Some b → IsPieceAt most exit more k j b
 piece_at most exit zero k insts few zero b there = rw (← same_Some _ b there) (record { short = omega (arith, few); leaves = inl (refl, refl) })
 piece_at most exit zero k insts few (suc j) b there = absurd (none-some b there)
-piece_at most exit (suc more) k insts few zero b there =
-    let here : k ≡ k + 0 = omega arith in
-    let cut = length-take most insts in
-    rw (← same_Some _ b there) (record { short = omega (arith, cut); leaves = inr (omega arith, ap (λ n. Goto (suc n)) here) })
+piece_at most exit (suc more) k insts few zero b there = grind (arith, length-take most insts)
 piece_at most exit (suc more) k insts few (suc j) b there =
     let cut = length-drop most insts in
-    let p = piece_at most exit more (suc k) (drop most insts) (omega (arith, cut, few)) j b there in
-    let next : suc k + j ≡ k + suc j = omega arith in
-    record {
-      short = p.short;
-      leaves = ⊎_elim (λ last. inl (ap suc last.0, last.1)) (λ other. inr (omega (arith, other.0), other.1 ∙ ap (λ n. Goto (suc n)) next)) p.leaves;
-    }
+    grind (arith, piece_at most exit more (suc k) (drop most insts) (omega (arith, cut, few)) j b there)

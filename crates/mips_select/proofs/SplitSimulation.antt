@@ -26,14 +26,8 @@ module _ (most : ℕ) (place links : ℕ → ℕ) (word : ℕ) where
   pieces_return : (exit : Exit) (more k : ℕ) (insts : List Plain) (rest : List BlockParts)
       → return_block_of links word k (pieces most exit more k insts ++ rest) ≡ call_return_of exit (links (k + more) == word)
       (return_block_of links word (k + suc more) rest)
-  pieces_return exit zero k insts rest =
-      let here : k ≡ k + 0 = omega arith in
-      let next : suc k ≡ k + 1 = omega arith in
-      cc
-  pieces_return exit (suc more) k insts rest =
-      let here : suc k + more ≡ k + suc more = omega arith in
-      let next : suc k + suc more ≡ k + suc (suc more) = omega arith in
-      cc (pieces_return exit more (suc k) (drop most insts) rest)
+  pieces_return exit zero k insts rest = grind arith
+  pieces_return exit (suc more) k insts rest = grind (arith, pieces_return exit more (suc k) (drop most insts) rest)
 
   call_renumbered : (exit : Exit) (found : Bool) (rest : Option ℕ)
       → call_return_of (renumbered_exit place exit) found (option_map place rest) ≡ option_map place (call_return_of exit found rest)
@@ -44,15 +38,9 @@ module _ (most : ℕ) (place links : ℕ → ℕ) (word : ℕ) where
       → return_block_of links word k (split_from most place k bs) ≡ option_map place (return_block_of long word n bs)
   return_renumbered long k n [] same = refl
   return_renumbered long k n (b ∷ bs) same =
-      let here : n ≡ n + 0 = omega arith in
-      let next : k + count_of most b ≡ k + suc (more_pieces most b) = omega arith in
       let behind = return_renumbered long (k + count_of most b) (suc n) bs
       (λ j. (let next : suc n + j ≡ n + suc j = omega arith in ap long next) ∙ same (suc j)) in
-      cc (
-        pieces_return (renumbered_exit place b.exit) (more_pieces most b) k b.insts (split_from most place (k + count_of most b) bs),
-        same 0,
-        call_renumbered b.exit (long n == word) (return_block_of long word (suc n) bs),
-      )
+      grind (arith, pieces_return, same 0, call_renumbered b.exit (long n == word) (return_block_of long word (suc n) bs), behind)
 
 -- where a call goes on is below what bounds all targets
 pub return_below : (links : ℕ → ℕ) (word bound k : ℕ) (bs : List BlockParts)

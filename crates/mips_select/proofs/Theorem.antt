@@ -2,7 +2,7 @@
 use Rattle.std.proofs.Common.{◌≡◌, ◌≢◌, ℕ, ◌+◌, ◌-◌, ◌%◌, ◌^◌, ◌<◌, ◌≤◌, List, [], ◌∷◌, map}
 use Rattle.std.proofs.Common.{length, Some, None, refl, sym, ap, ◌∙◌, arith, le-leb}
 use Rattle.std.specs.Prelude.{slice_get}
-use Rattle.std.proofs.lemmas.Bool.{lt-leb}
+use Rattle.std.proofs.lemmas.Bool.Decides.{nat_tests}
 use Rattle.std.proofs.lemmas.Option.{same_Some, none-some, slice_get_within, get_or_from_slice_get}
 use mathlib.Core.Path.{fun_ext}
 use Rattle.words.specs.declared.width.Width.{Width}
@@ -52,11 +52,7 @@ entry_unset saved = fun_ext (λ r. grind arith)
 -- a byte of data at the start
 data_byte : (data_list : List ℕ) (p b : ℕ) → length data_list ≤ UNIT_BYTES → slice_get data_list p ≡ Some b → first_bytes data_list (data_base + p) ≡ b
 data_byte l p b few there =
-    let within = slice_get_within l p b there in
-    let below : data_base + p < stack_base = omega (arith, within, few) in
-    let low : data_base ≤ data_base + p = omega arith in
-    let place : data_base + p - data_base ≡ p = omega arith in
-    cc (lt-leb stack_base (data_base + p) below, le-leb data_base (data_base + p) low, get_or_from_slice_get l p b 0 there)
+    grind (arith, nat_tests, slice_get_within l p b there, get_or_from_slice_get l p b 0 there)
 
 module _ (l : List ℕ) (few : length l ≤ UNIT_BYTES) where
   -- what a load sees where the bytes of an element stand
