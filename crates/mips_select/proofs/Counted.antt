@@ -1,5 +1,5 @@
 -- At most how many blocks the unit of a program has.
-use Rattle.std.proofs.Common.{◌≡◌, ℕ, suc, ◌+◌, ◌*◌, ◌<◌, ◌≤◌, Bool, false, List, [], ◌∷◌, ◌++◌, length, length-append, Option, Some, None}
+use Rattle.std.proofs.Common.{◌≡◌, ℕ, suc, ◌+◌, ◌*◌, ◌<◌, ◌≤◌, Bool, false, List, [], ◌∷◌, ◌++◌, length, length-append, Option, Some}
 use Rattle.std.proofs.Common.{refl, arith}
 use Rattle.std.specs.Prelude.{slice_get}
 use Rattle.std.proofs.lemmas.Bool.Decides.{nat_tests}
@@ -14,7 +14,6 @@ use Rattle.mips_emit.specs.Comparisons.{last_after, no_last}
 use Rattle.mips_select.specs.Split.{first_piece_of, total}
 use Rattle.mips_select.proofs.Places.{length-split_from}
 use Rattle.mips_select.specs.declared.heads.Naming.{Naming}
-use Rattle.mips_select.specs.declared.heads.Naming.TheVariants.{Called}
 use Rattle.mips_select.specs.Code.{context_in, asked_of, exit_code, head_code}
 use Rattle.mips_select.specs.Plans.{Linking, Planning}
 use Rattle.mips_select.specs.Emittable.{HasFewArguments}

@@ -1,8 +1,8 @@
 -- Registers are saved in a frame and come back; arguments and parameters.
-use Rattle.std.proofs.Common.{◌≡◌, ◌≢◌, inl, inr, ℕ, zero, suc, ◌+◌, ◌*◌, ◌%◌, ◌^◌, ◌<◌, ◌≤◌, Bool, true, false, List, [], ◌∷◌, length, Option, Some, None}
+use Rattle.std.proofs.Common.{◌≡◌, ◌≢◌, ℕ, zero, suc, ◌+◌, ◌*◌, ◌%◌, ◌^◌, ◌<◌, ◌≤◌, Bool, true, false, List, [], ◌∷◌, length, Option, Some}
 use Rattle.std.proofs.Common.{refl, sym, ap, ◌∙◌, arith, nat_eq, true≢false}
 use Rattle.std.specs.Prelude.{slice_get, ◌||◌}
-use Rattle.std.proofs.lemmas.Bool.{eqb-false, or_parts, cond_both}
+use Rattle.std.proofs.lemmas.Bool.{eqb-false, or_parts}
 use Rattle.std.proofs.lemmas.Bool.Decides.{nat_tests}
 use Rattle.std.proofs.lemmas.Option.{same_Some, none-some, slice_get_within}
 use Rattle.words.specs.declared.width.Width.{Width}
@@ -13,21 +13,20 @@ use Rattle.mips_isa.specs.Starting.{stack_base, stack_end, is_mapped}
 use Rattle.rtl.specs.declared.block.RGlobal.{RGlobal}
 use Rattle.mips_homes.specs.HomedRun.{cells, Run, Failed, read_home, read_homes, write_homes, is_in}
 use Rattle.mips_homes.specs.declared.homed.Home.{Home}
-use Rattle.mips_homes.specs.declared.homed.Home.TheVariants.{Reg, Copied}
-use Rattle.mips_emit.specs.declared.location.Source.TheVariants.{Zero, Word}
+use Rattle.mips_emit.specs.declared.location.Source.TheVariants.{Word}
 use Rattle.mips_emit.specs.Frames.{AreFrameHomes}
-use Rattle.mips_emit.specs.Locations.{Facts, known_in, known_source, deferred_at, deferred_source, source, operand}
+use Rattle.mips_emit.specs.Locations.{Facts, known_in, operand}
 use Rattle.mips_emit.specs.Code.{arguments_code}
 use Rattle.mips_emit.proofs.Runs.{RunsTo, runs_none, runs_then}
 use Rattle.mips_emit.proofs.View.{shown_at, word_at, set, set_word, shown_other, word_here, set_words, set_at_words, word_below, put_here, put_other}
 use Rattle.mips_emit.proofs.View.{read_register, loads_word, stores_word}
 use Rattle.mips_emit.proofs.Stands.{Stored, with_slots, Stands, open_stack}
-use Rattle.mips_emit.proofs.Operands.{hide, AreDeferred, IsKnown, Denotes, IsApart, denotes_kept, IsElsewhere}
+use Rattle.mips_emit.proofs.Operands.{hide, AreDeferred, IsKnown, Denotes, denotes_kept, IsElsewhere}
 use Rattle.runs.proofs.Words.{chain-some}
 use Rattle.mips_emit.proofs.Homes.{operand_means, caller_saved_kept, carries, arrives}
 use Rattle.mips_select.specs.declared.prologue.Direction.TheVariants.{Save, Restore}
 use Rattle.mips_select.specs.Code.{frame_words, parameters_code}
-use Rattle.mips_select.specs.Selected.{IsBehind, AreInOrder, IsClear, AreClear}
+use Rattle.mips_select.specs.Selected.{AreInOrder, IsClear, AreClear}
 
 -- so many bytes of the stack, from the stack pointer on
 pub record InStack (total n : ℕ) (s : State) : Type 0 where

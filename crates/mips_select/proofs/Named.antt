@@ -1,5 +1,5 @@
 -- Exits go to blocks without head, but for calls that go on at the store of their result.
-use Rattle.std.proofs.Common.{arith, ◌≡◌, ℕ, zero, suc, List, [], ◌∷◌, Option, Some, None, refl, subst, nat_eq}
+use Rattle.std.proofs.Common.{arith, ◌≡◌, ℕ, zero, suc, List, [], ◌∷◌, Option, Some, None, subst}
 use Rattle.std.specs.Prelude.{slice_get, slice_set}
 use Rattle.std.proofs.lemmas.Option.{same_Some, none-some}
 use Rattle.std.proofs.lemmas.Bool.Decides.{nat_tests}
@@ -10,7 +10,7 @@ use Rattle.mips_select.specs.declared.heads.Naming.{Naming}
 use Rattle.mips_select.specs.declared.heads.Naming.TheVariants.{Unnamed, Called, Jumped}
 use Rattle.mips_select.specs.declared.heads.Head.{Head}
 use Rattle.mips_select.specs.declared.heads.Head.TheVariants.{Bare, Enters, Takes}
-use Rattle.mips_select.specs.Heads.{naming_with_call, note, namings, head_at, heads_in}
+use Rattle.mips_select.specs.Heads.{naming_with_call, note, namings, heads_in}
 
 -- what heads an exit allows
 abbrev pub NamedCall : Option ℕ → Head → Type 0

@@ -1,13 +1,13 @@
 -- The blocks for a program stand for it.
 use Rattle.std.proofs.Common.{◌≡◌, ℕ, zero, suc, ◌+◌, ◌<◌, ◌≤◌, ◌⊎◌, inl, inr, Bool, false, List, [], ◌∷◌, ◌++◌, length}
-use Rattle.std.proofs.Common.{⊎_elim, Option, Some, None, refl, sym, ap, ◌∙◌, arith}
-use Rattle.std.specs.Prelude.{All, if◌then◌else◌, slice_get, slice_index}
+use Rattle.std.proofs.Common.{⊎_elim, Some, refl, sym, ap, ◌∙◌, arith}
+use Rattle.std.specs.Prelude.{All, slice_get, slice_index}
 use Rattle.std.proofs.lemmas.Option.{same_Some, none-some, slice_get_within}
 use Rattle.std.proofs.lemmas.Bool.Decides.{nat_tests}
 use Rattle.mips_isa.specs.declared.inst.Plain.{Plain}
 use Rattle.mblock.specs.Parts.{BlockParts}
 use Rattle.rtl.specs.declared.instruction.RExit.{RExit}
-use Rattle.rtl.specs.declared.instruction.RExit.TheVariants.{Goto, Branch, Call, Return, Out}
+use Rattle.rtl.specs.declared.instruction.RExit.TheVariants.{Call}
 use Rattle.rtl.specs.declared.block.RBlock.{RBlock}
 use Rattle.rtl.specs.declared.block.RFunc.{RFunc}
 use Rattle.rtl.specs.Programs as programs
@@ -15,27 +15,24 @@ use Rattle.rtl.specs.Programs.{IsProgram}
 use Rattle.mips_homes.specs.Preferences.{exit_reach, blocks_reach}
 use Rattle.mips_homes.proofs.Located.{reach_covers, blocks_cover, seated as placed_seated}
 use Rattle.mips_homes.specs.Places.{ArePlaced}
-use Rattle.mips_homes.specs.declared.homed.Home.{Home}
 use Rattle.mips_homes.specs.declared.homed.Home.TheVariants.{Reg, Copied}
 use Rattle.mips_homes.specs.declared.homed.Frame.{Frame}
 use Rattle.mips_homes.specs.declared.homed.Homed.{Homed}
 use Rattle.mips_emit.specs.Locations.{locations}
 use Rattle.mips_select.proofs.Places.{HasAt, has_whole, has_head, has_tail, has_front, has_back}
-use Rattle.mips_select.specs.declared.heads.Naming.{Naming}
-use Rattle.mips_select.specs.declared.heads.Naming.TheVariants.{Called}
 use Rattle.mips_select.specs.declared.heads.Head.{Head}
 use Rattle.mips_select.specs.declared.heads.Head.TheVariants.{Bare, Enters, Takes}
 use Rattle.mips_select.specs.Limits.{largest_frame, FramesFit}
-use Rattle.mips_select.specs.Heads.{calls_none, is_leaf, namings, unnamed, head_at, heads_of, resumes, count, lead_of, lead_in}
+use Rattle.mips_select.specs.Heads.{calls_none, is_leaf, unnamed, heads_of, count, lead_of, lead_in}
 use Rattle.mips_select.specs.Plans.{Linking, Planning}
-use Rattle.mips_select.specs.Code.{prologue, result_code, head_code, own_block, after_block, prologue_block}
+use Rattle.mips_select.specs.Code.{prologue, head_code, own_block, prologue_block}
 use Rattle.mips_select.specs.Whole.{numbers, next_of, behind, blocks_from, place_in, lead_blocks, planning_in, function_blocks, function_size, entries_from}
 use Rattle.mips_select.specs.Whole.{entry_of, functions_blocks, linking_for, program_blocks}
-use Rattle.mips_select.specs.Selected.{IsBehind, AreInOrder, IsClear, AreClear, GoesOn, StandsAt, IsSelected}
+use Rattle.mips_select.specs.Selected.{AreInOrder, AreClear, GoesOn, StandsAt, IsSelected}
 use Rattle.mips_select.proofs.Lists.{all_at}
 use Rattle.mips_select.proofs.Linked.{behind_length, lead_length, function_length}
 use Rattle.mips_select.proofs.FrameSizes.{placed_alone, are_frames}
-use Rattle.mips_select.proofs.Named.{NamedCall, Named, named}
+use Rattle.mips_select.proofs.Named.{Named, named}
 
 -- a home below 8 is in a register in which no argument is passed behind it, and where a parameter comes
 abbrev pub AreSeated : RFunc → Frame → Type 0

@@ -1,6 +1,6 @@
 -- The blocks that stand for a program keep its runs, and so does its unit.
-use Rattle.std.proofs.Common.{◌≡◌, ◌≢◌, ℕ, ◌+◌, ◌-◌, ◌%◌, ◌^◌, ◌<◌, ◌≤◌, List, [], ◌∷◌, map}
-use Rattle.std.proofs.Common.{length, Some, None, refl, sym, ap, ◌∙◌, arith, le-leb}
+use Rattle.std.proofs.Common.{◌≡◌, ◌≢◌, ℕ, ◌+◌, ◌%◌, ◌^◌, ◌<◌, ◌≤◌, List, [], ◌∷◌, map}
+use Rattle.std.proofs.Common.{length, Some, None, refl, sym, ap, ◌∙◌, arith}
 use Rattle.std.specs.Prelude.{slice_get}
 use Rattle.std.proofs.lemmas.Bool.Decides.{nat_tests}
 use Rattle.std.proofs.lemmas.Option.{same_Some, none-some, slice_get_within, get_or_from_slice_get}
@@ -11,7 +11,7 @@ use Rattle.runs.specs.declared.ran.End.TheVariants.{Wrong}
 use Rattle.runs.specs.Runs.{Outcome}
 use Rattle.runs.specs.Stores.{unset_places}
 use Rattle.mips_isa.specs.States.{State, IsWords, byte_of, load_word, load_byte}
-use Rattle.mips_isa.specs.Starting.{data_base, stack_base, stack_end, first_bytes, start_state}
+use Rattle.mips_isa.specs.Starting.{data_base, stack_end, first_bytes, start_state}
 use Rattle.mips_isa.specs.Actions.{action_of}
 use Rattle.mips_isa.proofs.StateWords.{start_words}
 use Rattle.mblock.specs.declared.limits.TheConstants.{BLOCK_INSTS, UNIT_BYTES}

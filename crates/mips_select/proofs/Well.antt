@@ -5,10 +5,8 @@ use Rattle.std.specs.Prelude.{slice_get, slice_index, replicate}
 use Rattle.std.proofs.lemmas.List.{length-replicate, get_or-replicate}
 use Rattle.std.proofs.lemmas.Bool.{cases_eq}
 use Rattle.std.proofs.lemmas.Option.{same_Some, none-some, slice_get_within, slice_get-get_or}
-use Rattle.mblock.specs.declared.exit.Exit.{Exit}
-use Rattle.mblock.specs.declared.exit.Exit.TheVariants.{Goto, BranchPair, BranchZero, Call, Out}
 use Rattle.mblock.specs.Parts.{BlockParts}
-use Rattle.mblock.specs.Units.{GoesBelow, BranchesWithin, Continues, AreLinked, AreOwners}
+use Rattle.mblock.specs.Units.{Continues, AreLinked, AreOwners}
 use Rattle.mips_select.specs.Split.{renumbered_exit, more_pieces, pieces, count_of, firsts, first_piece_of, split_at_most, owners_from, total}
 use Rattle.mips_select.proofs.Places.{HasAt, has_whole, has_front, has_back, has_pieces, has_get, block_there, length-pieces}
 use Rattle.mips_select.proofs.Places.{length-split_from, Located, located, first_next, IsPieceAt, piece_at}
