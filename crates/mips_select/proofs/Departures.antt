@@ -1,5 +1,5 @@
 -- How blocks are left, apart from what the unit does then: branches and comparisons, what is known there, and where a call goes on.
-use Rattle.std.proofs.Common.{◌≡◌, ℕ, suc, ◌+◌, ◌<◌, ◌≤◌, ◌==◌, Bool, true, List, [], ◌∷◌, length, Some, None, sym, ap, ◌∙◌}
+use Rattle.std.proofs.Common.{Option, ◌≡◌, ℕ, suc, ◌+◌, ◌<◌, ◌≤◌, ◌==◌, Bool, true, List, [], ◌∷◌, length, Some, None, sym, ap, ◌∙◌}
 use Rattle.std.proofs.Common.{arith, eq-eqb, eqb-true, ⊎_elim}
 use Rattle.std.specs.Prelude.{if◌then◌else◌, not, slice_get}
 use Rattle.std.proofs.lemmas.Option.{same_Some, slice_get_within}
@@ -17,7 +17,7 @@ use Rattle.mips_emit.specs.declared.comparison.Form.{Form}
 use Rattle.mips_emit.specs.declared.comparison.Comparison.{Comparison}
 use Rattle.mips_emit.specs.declared.location.Source.{Source}
 use Rattle.mips_emit.specs.Locations.{Facts, locations}
-use Rattle.mips_emit.specs.Comparisons.{exit_by_form, comparison_of, last_with}
+use Rattle.mips_emit.specs.Comparisons.{exit_by_form, comparison_of, is_result, tested, returned, last_with}
 use Rattle.std.proofs.lemmas.Bool.{cases_eq}
 use Rattle.std.proofs.lemmas.Bool.Decides.{nat_tests}
 use Rattle.mips_select.proofs.Places.{HasAt, has_whole, has_head, has_tail}
@@ -42,6 +42,14 @@ pub goes_by : (blocks : List BlockParts) (links : ℕ → ℕ) (form : Form) (x 
     (exit_effect (exit_by_form form x y t e) s (links k)).state out
     ≡ outcome_at_block (if passes form x y s then t else e) (slice_get blocks (if passes form x y s then t else e)) (items blocks links n) s out
 goes_by blocks links form x y t e k s out n = grind arith
+
+-- by which comparison a branch or a return goes
+pub tested_by : (p : Option Comparison) (x : ℕ) (m : Comparison) → tested p x ≡ Some m → (p ≡ Some m) × (m.result ≡ x)
+tested_by p x m e = grind (arith, nat_tests)
+
+pub returned_by : (p : Option Comparison) (x : ℕ) → returned p x ≡ true
+    → (m : Comparison) × (p ≡ Some m) × (is_result m.form ≡ true) × (m.result ≡ x)
+returned_by p x e = grind (arith, nat_tests)
 
 -- behind a comparison neither the exit nor what stands before it goes by what is known
 pub same_left : (l : Linking) (p : Placing) (facts known known' : Facts) (i : RInst) (m : Comparison) (n : ℕ) (x : RExit)

@@ -67,7 +67,7 @@ module _ (P : ℕ → Type 0) where
 
   at_copy : (low : ℕ) (hs : List Home) (x r k : ℕ) → Climbing low hs → slice_get hs x ≡ Some (Copied r k) → (low < r) × P r
   at_copy low [] x r k up e = absurd (none-some (Copied r k) e)
-  at_copy low (Copied q i ∷ hs) zero r k up e = (let same : q ≡ r = cc in let here : (low < q) × P q = (up.0, up.1) in rw same at here)
+  at_copy low (Copied q i ∷ hs) zero r k up e = grind arith
   at_copy low (Copied q i ∷ hs) (suc x) r k up e = (let rest = at_copy q hs x r k up.2 e in (omega (arith, up.0, rest.0), rest.1))
   at_copy low (h ∷ hs) zero r k up e = absurd cc
   at_copy low (h ∷ hs) (suc x) r k up e = at_copy low hs x r k up e
@@ -170,11 +170,7 @@ module _ {func : RFunc} {f : Frame} (q : IsPlacedFor func f) where
 
   placed_home : (x : ℕ) (h : Home) → slice_get f.homes.items x ≡ Some h
       → (slice_get (q.choice).homes.items x ≡ Some (cell h)) ⊎ GetsTemporaryIn func q.choice f q.is q.placed x (cell h) → IsHome f.slots h
-  placed_home x (Reg r) there e = within func q.choice f q.is q.placed x r there
-  placed_home x (Slot k) there (inl e) = in_slot x (Slot k) k there refl e
-  placed_home x (Slot k) there (inr p) = let no : Slot k ≡ Reg p.r = p.is in cc
-  placed_home x (Copied r k) there (inl e) = in_slot x (Copied r k) k there refl e
-  placed_home x (Copied r k) there (inr p) = let no : Slot k ≡ Reg p.r = p.is in cc
+  placed_home x h there e = grind (arith, within func q.choice f q.is q.placed x, in_slot x h)
 
   pub placed_is_frame : (most : ℕ) → frame_bytes_of func ≤ most → IsFrame most f
   placed_is_frame most le = record {

@@ -30,10 +30,7 @@ pub has_front : {A : Type 0} {whole : List A} {k : ℕ} (a b : List A) → HasAt
 has_front a b h = record { by = λ i x e. h.by i x (get_before a b i x e) }
 
 pub has_back : {A : Type 0} {whole : List A} {k m : ℕ} (a b : List A) → HasAt whole k (a ++ b) → k + length a ≡ m → HasAt whole m b
-has_back {whole} {k} {m} a b h is = record {
-  by = λ i x e. (let sums : m + i ≡ k + (length a + i) = omega (arith, is) in ap (slice_get whole) sums)
-      ∙ h.by (length a + i) x (get_behind a b i ∙ e);
-}
+has_back a b h is = record { by = λ i x e. grind (arith, h.by (length a + i) x (get_behind a b i ∙ e)) }
 
 pub has_get : {A : Type 0} {whole : List A} {k : ℕ} {part : List A} → HasAt whole k part → (j : ℕ) {x : A} → j < length part
     → slice_get whole (k + j) ≡ Some x → slice_get part j ≡ Some x
@@ -66,9 +63,7 @@ pub last_there : (most : ℕ) (exit : Exit) (whole : List BlockParts) (more k : 
     → HasAt whole k (pieces most exit more k insts) → (p : BlockParts) × (slice_get whole (k + more) ≡ Some p) × (p.exit ≡ exit)
 last_there most exit whole zero k insts has = (piece insts exit, has.by 0 (piece insts exit) refl, refl)
 last_there most exit whole (suc more) k insts has =
-    let rest = last_there most exit whole more (suc k) (drop most insts) (has_tail has) in
-    let next : k + suc more ≡ suc k + more = omega arith in
-    (rest.0, ap (slice_get whole) next ∙ rest.1, rest.2)
+    let rest = last_there most exit whole more (suc k) (drop most insts) (has_tail has) in (rest.0, grind arith, rest.2)
 
 last_above : (most k : ℕ) (bs : List BlockParts) (n : ℕ) → n < length bs → k ≤ slice_index (lasts most k bs) n
 last_above most k [] n lt = absurd (omega (arith, lt))

@@ -49,7 +49,7 @@ use Rattle.mips_select.specs.Plans.{Linking, Placing, placing_of}
 use Rattle.mips_select.specs.Code.{epilogue, asked_of, exit_code, exit_of, code_insts}
 use Rattle.mips_select.specs.Code.{context_in, own_block, result_code, after_block}
 use Rattle.mips_select.specs.Selected.{GoesOn, StandsAt, IsPlaced, IsFunction, IsSelected}
-use Rattle.mips_select.proofs.Departures.{branch_words, either, above_arguments, goes_by, same_left, return_found}
+use Rattle.mips_select.proofs.Departures.{branch_words, either, above_arguments, goes_by, tested_by, returned_by, same_left, return_found}
 use Rattle.mips_select.proofs.Frames.{all_denote, arguments, parameters}
 use Rattle.mips_select.proofs.Calls.{stored_frame, frames_of, linked_frames, enters, leaves_frame}
 
@@ -396,28 +396,19 @@ module _ {h : Homed} {depth : ℕ} {blocks : List BlockParts} (ok : IsSelected h
         goes_on _ out one.runs (settled m.are_deferred one.stands) (either m.head z y (nat_eq v 0) c.leads_on) (λ target there.
         departs c.there is_exit (λ n. rw (one.here, branch_words m.place z y (nat_eq v 0), there)))
     branches x y z c v e (Some n) is_test known is_known is_exit =
-        let taken : passes n.form n.left.source n.right.source s ≡ not (nat_eq v 0) = found m.last.comparison refl is_test in
+        let there = tested_by m.last.comparison x n is_test in
+        let taken = m.is_last.comparison n v there.0 (ap (read_home homes r a.slots) there.1 ∙ e) in
         goes_on _ out (runs_none s) settles (either m.head z y (nat_eq v 0) c.leads_on) (λ target there.
         departs c.there is_exit (λ i.
         goes_by blocks links n.form n.left.source n.right.source (m.place y) (m.place z) k s out i
         ∙ rw (taken, branch_words m.place z y (nat_eq v 0), there)))
-      where
-        -- what is left of a comparison says whether the branch is taken
-        found : (p : Option Comparison) → m.last.comparison ≡ p → tested p x ≡ Some n → passes n.form n.left.source n.right.source s ≡ not (nat_eq v 0)
-        found None is t = absurd (none-some n t)
-        found (Some q) is t = let there = if_some (nat_eq q.result x) (Some q) n t in
-            rw (← same_Some q n there.1) (m.is_last.comparison q v is (ap (read_home homes r a.slots) (eqb-true q.result x there.0) ∙ e))
 
     gives : (x : ℕ) → Leaving (Return (Some x)) → (v : ℕ) → Reads x v → (b : Bool) → returned m.last.comparison x ≡ b
         → From (return_code b (operand x) ++ epilogue m.leaf a.frame) (state_after_return (Some v) a (callee_saved r) ws g out)
     gives x c v e true is =
-        goes_back (Some x) c (Some v) (runs_none s) settles (λ w some. there_already m.last.comparison refl is ∙ same_Some v w some)
-      where
-        there_already : (p : Option Comparison) → m.last.comparison ≡ p → returned p x ≡ true → s.regs 2 ≡ v
-        there_already None is t = absurd (true≢false (sym t))
-        there_already (Some n) is t =
-            let both = and_parts (is_result n.form) (nat_eq n.result x) t in
-            m.is_last.result n v is both.0 (ap (read_home homes r a.slots) (eqb-true n.result x both.1) ∙ e)
+        let there = returned_by m.last.comparison x is in
+        goes_back (Some x) c (Some v) (runs_none s) settles (λ w some.
+        m.is_last.result there.0 v there.1 there.2 (ap (read_home homes r a.slots) there.3 ∙ e) ∙ same_Some v w some)
     gives x c v e false is =
         let one = carries m.stands 2 v (operand x) (omega arith) (means x v e) in
         goes_back (Some x) c (Some v) one.runs (settled m.are_deferred (sets_kept m.stands (omega arith) one)) (λ w some. one.here ∙ same_Some v w some)

@@ -93,18 +93,13 @@ module _ (most : ℕ) (some : 0 < most) (blocks : List BlockParts) where
 
     owner_moved : (t o : ℕ) → slice_get owner t ≡ Some o → slice_get owned (place t) ≡ Some (place o)
     owner_moved t o is =
-        let low = slice_get_within owner t o is in
-        let b = block_there blocks t (omega (arith, low, owners.lengths)) in
-        let here : place t ≡ place t + 0 = omega arith in
-        ap (slice_get owned) here ∙ piece_owner t o b.0 b.1 is 0 (omega arith)
+        let b = block_there blocks t (omega (arith, slice_get_within owner t o is, owners.lengths)) in grind (arith, piece_owner t o b.0 b.1 is 0)
 
     -- the owner of a piece is that of its block
     owner_at : (i o : ℕ) (at : Located most 0 blocks i) → slice_get owned i ≡ Some o → (w : ℕ) × (slice_get owner at.number ≡ Some w) × (place w ≡ o)
     owner_at i o at is =
-        let here : i ≡ place at.number + at.behind = omega (arith, at.is) in
         let w = block_there owner at.number (omega (arith, slice_get_within blocks at.number at.block at.there, owners.lengths)) in
-        let own = piece_owner at.number w.0 at.block at.there w.1 at.behind at.within in
-        (w.0, w.1, same_Some (place w.0) o (sym own ∙ sym (ap (slice_get owned) here) ∙ is))
+        (w.0, w.1, grind (arith, at.is, piece_owner at.number w.0 at.block at.there w.1 at.behind at.within))
 
     continues_from : (i w n j : ℕ) (b : BlockParts) → slice_get blocks n ≡ Some b → j ≤ more_pieces most b → slice_get owner n ≡ Some w
         → i ≡ place n + j → Continues owned i (place w)
@@ -112,16 +107,13 @@ module _ (most : ℕ) (some : 0 < most) (blocks : List BlockParts) where
     continues_from zero w (suc m) j b there le is e =
         let a = block_there blocks m (omega (arith, slice_get_within blocks (suc m) b there)) in
         absurd (omega (arith, first_next most 0 blocks m a.0 b a.1 there, e))
-    continues_from (suc i) w n (suc j) b there le is e = λ other.
-        let here : i ≡ place n + j = omega (arith, e) in
-        ap (slice_get owned) here ∙ piece_owner n w b there is j (omega (arith, le))
+    continues_from (suc i) w n (suc j) b there le is e = λ other. grind (arith, piece_owner n w b there is j)
     continues_from (suc i) w zero zero b there le is e = absurd (omega (arith, first_zero most blocks, e))
-    continues_from (suc i) w (suc m) zero b there le is e = λ other. ⊎_elim
-        (λ at. (let here : place (suc m) ≡ suc i = omega (arith, e) in absurd (other (ap place at ∙ here))))
-        (λ ne. (let before : slice_get owner m ≡ Some w = owners.continues (suc m) w is ne in
-        let a = block_there blocks m (omega (arith, slice_get_within owner m w before, owners.lengths)) in
-        let here : i ≡ place m + more_pieces most a.0 = omega (arith, first_next most 0 blocks m a.0 b a.1 there, e) in
-        ap (slice_get owned) here ∙ piece_owner m w a.0 a.1 before (more_pieces most a.0) (omega arith))) (cases_eq w (suc m))
+    continues_from (suc i) w (suc m) zero b there le is e = λ other.
+        let a = block_there blocks m (omega (arith, slice_get_within blocks (suc m) b there)) in
+        let before = owners.continues (suc m) w is in
+        let own = λ (before : slice_get owner m ≡ Some w). piece_owner m w a.0 a.1 before (more_pieces most a.0) (omega arith) in
+        grind (arith, before, own, first_next most 0 blocks m a.0 b a.1 there)
 
     pub pieces_owned : AreOwners whole owned
     pieces_owned = record {
