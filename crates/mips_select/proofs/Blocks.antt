@@ -78,9 +78,7 @@ piece_step exit out out' all insts front back next many long front_is back_is ne
     let more = (length back - 1) / 512 in
     let own = piece front (Goto next) ∷ [] in
     let count : (length insts - 1) / 512 ≡ suc more = omega (arith, many, long) in
-    let next_suc : next ≡ suc (length out) = omega (arith, next_is) in
-    let longer : length out' ≡ suc (length out) = omega (arith, ap length made, length-append out own) in
-    (omega (arith, few, count, longer), cc (append_assoc out own (pieces 512 exit more (length out') back)))
+    grind (arith, length-append out own, append_assoc out own (pieces 512 exit more (length out') back))
 
 -- one more block, of those that are left
 pub block_step : (place : ℕ → ℕ) (b : BlockParts) (bs bs' out out' all : List BlockParts) (count : ℕ) (exit old : Exit) → bs ≡ b ∷ bs'
@@ -89,8 +87,5 @@ pub block_step : (place : ℕ → ℕ) (b : BlockParts) (bs bs' out out' all : L
     → (length out' + total 512 bs' ≡ count) × (out' ++ split_from 512 place (length out') bs' ≡ all)
 block_step place b bs bs' out out' all count exit old left exit_is old_is made counted before =
     let own = pieces 512 (renumbered_exit place b.exit) (more_pieces 512 b) (length out) b.insts in
-    let here : out' ≡ out ++ own = cc in
-    let longer : length out' ≡ length out + count_of 512 b =
-    cc (length-append out own, length-pieces 512 (renumbered_exit place b.exit) (more_pieces 512 b) (length out) b.insts) in
-    let counts : total 512 bs ≡ count_of 512 b + total 512 bs' = ap (total 512) left in
-    (omega (arith, counted, counts, longer), cc (append_assoc out own (split_from 512 place (length out + count_of 512 b) bs')))
+    let long = length-pieces 512 (renumbered_exit place b.exit) (more_pieces 512 b) (length out) b.insts in
+    grind (arith, length-append out own, long, append_assoc out own (split_from 512 place (length out + count_of 512 b) bs'))

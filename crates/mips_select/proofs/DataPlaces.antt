@@ -58,14 +58,10 @@ elements_byte : (w : Width) (vs : List ℕ) (i v k b : ℕ) → slice_get vs i �
     → slice_get (elements_bytes w vs) (width_bytes w * i + k) ≡ Some b
 elements_byte w [] i v k b at e = absurd (none-some v at)
 elements_byte w (x ∷ vs) zero v k b at e =
-    let place : width_bytes w * 0 + k ≡ k = omega arith in
-    cc (get_before (element_bytes w x) (elements_bytes w vs) k b (ap (λ v. slice_get (element_bytes w v) k) (same_Some x v at) ∙ e))
+    grind (arith, get_before (element_bytes w x) (elements_bytes w vs) k b (ap (λ v. slice_get (element_bytes w v) k) (same_Some x v at) ∙ e))
 elements_byte w (x ∷ vs) (suc i) v k b at e =
-    let next : width_bytes w * suc i + k ≡ length (element_bytes w x) + (width_bytes w * i + k) = omega (arith, element_length w x) in
-    cc (
-      get_behind (element_bytes w x) (elements_bytes w vs) (width_bytes w * i + k),
-      elements_byte w vs i v k b at e,
-    )
+    let behind = get_behind (element_bytes w x) (elements_bytes w vs) (width_bytes w * i + k) in
+    grind (arith, element_length w x, behind, elements_byte w vs i v k b at e)
 
 -- an element is inside its global
 global_inside : (x : RGlobal) (i v : ℕ) → length x.first.items ≡ x.length → slice_get (first_values x) i ≡ Some v
@@ -99,10 +95,8 @@ element_byte n (x ∷ gs) ok (suc a) i v k b p e at place =
     let low = (element_within (n + 4 * word_count x) gs (λ a. ok (suc a)) a i v e).0 in
     let long = global_length x (ok 0 x refl) in
     let q = p - 4 * word_count x in
-    let here : p ≡ length (global_bytes x) + (p - 4 * word_count x) = omega (arith, long, place, low) in
-    ap (slice_get (padded_bytes (x ∷ gs))) here
-    ∙ get_behind (global_bytes x) (padded_bytes gs) q
-    ∙ element_byte (n + 4 * word_count x) gs (λ a. ok (suc a)) a i v k b q e at (omega (arith, place, low))
+    let rest = element_byte (n + 4 * word_count x) gs (λ a. ok (suc a)) a i v k b q e at (omega (arith, place, low)) in
+    grind (arith, long, low, get_behind (global_bytes x) (padded_bytes gs) q, rest)
 
 pub start_even : (n : ℕ) (gs : List RGlobal) → n % 4 ≡ 0 → (a : ℕ) → slice_index (starts_from n gs) a % 4 ≡ 0
 start_even n [] even a = omega arith

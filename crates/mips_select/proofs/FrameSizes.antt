@@ -37,9 +37,7 @@ lower low low' (r ∷ rs) le h = (omega (arith, h.0, le), h.1)
 
 unused_rises : (hs : List Home) (low : ℕ) (rs : List ℕ) → Rising low rs → Rising low (unused hs rs)
 unused_rises hs low [] h = tt
-unused_rises hs low (r ∷ rs) h =
-    let rest = unused_rises hs r rs h.1 in
-    cond_both (lives_in hs r) (unused hs rs) (r ∷ unused hs rs) (Rising low) (λ _. lower r low (unused hs rs) (omega (arith, h.0)) rest) (λ _. (h.0, rest))
+unused_rises hs low (r ∷ rs) h = grind (arith, unused_rises hs r rs h.1, lower r low (unused hs rs))
 
 -- ---- copies
 
@@ -67,16 +65,15 @@ module _ (P : ℕ → Type 0) where
 
   at_copy : (low : ℕ) (hs : List Home) (x r k : ℕ) → Climbing low hs → slice_get hs x ≡ Some (Copied r k) → (low < r) × P r
   at_copy low [] x r k up e = absurd (none-some (Copied r k) e)
-  at_copy low (Copied q i ∷ hs) zero r k up e = grind arith
   at_copy low (Copied q i ∷ hs) (suc x) r k up e = (let rest = at_copy q hs x r k up.2 e in (omega (arith, up.0, rest.0), rest.1))
-  at_copy low (h ∷ hs) zero r k up e = absurd cc
+  at_copy low (h ∷ hs) zero r k up e = grind arith
   at_copy low (h ∷ hs) (suc x) r k up e = at_copy low hs x r k up e
 
   once : (low : ℕ) (hs : List Home) (x y r j k : ℕ) → Climbing low hs → slice_get hs x ≡ Some (Copied r j) → slice_get hs y ≡ Some (Copied r k) → x ≡ y
   once low [] x y r j k up e f = absurd (none-some (Copied r j) e)
   once low (h ∷ hs) zero zero r j k up e f = refl
-  once low (Copied q i ∷ hs) zero (suc y) r j k up e f = (let same : q ≡ r = cc in absurd (omega (arith, (at_copy q hs y r k up.2 f).0, same)))
-  once low (Copied q i ∷ hs) (suc x) zero r j k up e f = (let same : q ≡ r = cc in absurd (omega (arith, (at_copy q hs x r j up.2 e).0, same)))
+  once low (Copied q i ∷ hs) zero (suc y) r j k up e f = grind (arith, at_copy q hs y r k up.2 f)
+  once low (Copied q i ∷ hs) (suc x) zero r j k up e f = grind (arith, at_copy q hs x r j up.2 e)
   once low (Copied q i ∷ hs) (suc x) (suc y) r j k up e f = ap suc (once q hs x y r j k up.2 e f)
   once low (h ∷ hs) (suc x) (suc y) r j k up e f = ap suc (once low hs x y r j k up e f)
   once low (h ∷ hs) _ _ r j k up e f = absurd cc
@@ -97,12 +94,8 @@ are_copies hs plain =
     }
 
 pub copies_are : (bs : List RBlock) (hs : List Home) → ArePlain hs → AreCopies (copied bs hs)
-copies_are bs hs plain = cond_both (is_leaf bs) (copied_onto (unused hs temporaries) hs) hs AreCopies (λ _. are_copies hs plain) (λ _. record {
-  range = λ x r k e. absurd (no_copies hs plain x r k e);
-  caller_saved = λ x r k e. absurd (no_copies hs plain x r k e);
-  once = λ x y r j k e f. absurd (no_copies hs plain x r j e);
-  idle = λ x y r k at e. no_copies hs plain y r k e;
-})
+copies_are bs hs plain = cond_both (is_leaf bs) (copied_onto (unused hs temporaries) hs) hs AreCopies (λ _. are_copies hs plain)
+    (λ _. grind (arith, no_copies hs plain))
 
 -- ---- frames
 

@@ -132,11 +132,8 @@ module _ {total n : ℕ} where
       inside rest q w true is e f = rest.inside q w is (λ j there.
           (let next : (set s r v).regs 29 + (at + 4) + 4 * j ≡ s.regs 29 + at + 4 * suc j = omega (arith, pointer) in ap (word_at s) next) ∙ f (suc j) there)
       inside rest q w false is e f =
-          let q_r : q ≡ r = grind (arith, nat_tests) in
           let is_kept = kept 0 r refl in
-          let first : s.regs 29 + at ≡ s.regs 29 + at + 4 * 0 = omega arith in
-          rest.others q is ∙ ap (set s r v).regs q_r ∙ put_here s.regs r v (record { low = is_kept.0; high = is_kept.1 }) ∙ ap (word_at s) first
-          ∙ f 0 (ap Some (sym q_r))
+          grind (arith, nat_tests, rest.others q is, put_here s.regs r v (record { low = is_kept.0; high = is_kept.1 }), f 0)
 
 -- arguments as operands, before the first is moved
 abbrev pub AllDenote : ℕ → State → List Home → Facts → (xs vs : List ℕ) → Type 0

@@ -61,25 +61,21 @@ module _ (l : List ℕ) (few : length l ≤ UNIT_BYTES) where
   unfolding load_word load_byte
   element_shown Byte start i v lt even there =
       let p = element_place Byte start i in
-      let zero_k : p + 0 ≡ p = omega arith in
-      let here : slice_get l p ≡ Some v = ap (slice_get l) (sym zero_k) ∙ there 0 v refl in
+      let here : slice_get l p ≡ Some v = grind (arith, there 0 v refl) in
       let ok = open_data Byte (length l) p (element_aligned Byte start i even) (slice_get_within l p v here) in
       rw ok (data_byte l p v few here)
   element_shown Word start i v lt even there =
       let p = element_place Word start i in
       let s = start_state l in
       let a = data_base + p in
-      let zero_k : p + 0 ≡ p = omega arith in
-      let here : slice_get l p ≡ Some (byte_of v 0) = ap (slice_get l) (sym zero_k) ∙ there 0 (byte_of v 0) refl in
+      let here : slice_get l p ≡ Some (byte_of v 0) = grind (arith, there 0 (byte_of v 0) refl) in
       let ok = open_data Word (length l) p (element_aligned Word start i even) (slice_get_within l p (byte_of v 0) here) in
       let b0 : s.memory a ≡ byte_of v 0 = data_byte l p (byte_of v 0) few here in
       let b = λ (k : ℕ) (e : slice_get (element_bytes Word v) k ≡ Some (byte_of v k)). next k (byte_of v k) (there k (byte_of v k) e) in
       rw (ok, b0, b 1 refl, b 2 refl, b 3 refl) (omega arith)
     where
       next : (k b : ℕ) → slice_get l (element_place Word start i + k) ≡ Some b → (start_state l).memory (data_base + element_place Word start i + k) ≡ b
-      next k b at =
-          let place : data_base + element_place Word start i + k ≡ data_base + (element_place Word start i + k) = omega arith in
-          ap (start_state l).memory place ∙ data_byte l (element_place Word start i + k) b few at
+      next k b at = grind (arith, data_byte l (element_place Word start i + k) b few at)
 
 -- the state at the start holds the globals
 module _ (globals : List RGlobal) (ok : HaveValues globals) (few : length (padded_bytes globals) ≤ UNIT_BYTES) (most : ℕ) where
