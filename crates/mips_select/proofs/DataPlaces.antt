@@ -28,8 +28,7 @@ use Rattle.mips_select.specs.Data.{element_bytes, elements_bytes, gap_behind, ze
 pub zeros_step : (n i : ℕ) (bytes : List ℕ) {bytes' all : List ℕ} → i < n → bytes' ≡ bytes ++ 0 ∷ [] → bytes ++ zeros (n - i) ≡ all
     → bytes' ++ zeros (n - (i + 1)) ≡ all
 zeros_step n i bytes lt e before =
-    let one : suc (n - (i + 1)) ≡ n - i = omega (arith, lt) in
-    cc (append_assoc bytes (0 ∷ []) (zeros (n - (i + 1))))
+    let one : suc (n - (i + 1)) ≡ n - i = omega arith in grind (arith, append_assoc bytes (0 ∷ []) (zeros (n - (i + 1))))
 
 -- each has as many first values as elements
 abbrev pub HaveValues : List RGlobal → Type 0
@@ -48,9 +47,8 @@ elements_length w (v ∷ vs) =
 
 pub global_length : (x : RGlobal) → length x.first.items ≡ x.length → length (global_bytes x) ≡ 4 * word_count x
 global_length x same =
-    let n : length (first_values x) ≡ x.length = length-map x.first.items (λ v. kept x.width (wrap v)) ∙ same in
-    let size : length (elements_bytes x.width (first_values x)) ≡ width_bytes x.width * x.length = rw n at (elements_length x.width (first_values x)) in
-    grind (arith, size, length-replicate {A = ℕ} (gap_behind x.width x.length) 0, length-append {A = ℕ})
+    let values = length-map x.first.items (λ v. kept x.width (wrap v)) in
+    grind (arith, values, elements_length, length-replicate {A = ℕ} (gap_behind x.width x.length) 0, length-append {A = ℕ})
 
 -- ---- one global
 
@@ -67,9 +65,7 @@ elements_byte w (x ∷ vs) (suc i) v k b at e =
 global_inside : (x : RGlobal) (i v : ℕ) → length x.first.items ≡ x.length → slice_get (first_values x) i ≡ Some v
     → width_bytes x.width * i + width_bytes x.width ≤ 4 * word_count x
 global_inside x i v same at =
-    let within = slice_get_within (first_values x) i v at in
-    let values = length-map x.first.items (λ v. kept x.width (wrap v)) in
-    grind (arith, within, values, same)
+    grind (arith, slice_get_within (first_values x) i v at, length-map x.first.items (λ v. kept x.width (wrap v)))
 
 -- ---- all globals
 
@@ -87,10 +83,9 @@ pub element_byte : (n : ℕ) (gs : List RGlobal) → HaveValues gs → (a i v k 
     → place_in gs (slice_index (starts_from n gs)) a i + k ≡ n + p → slice_get (padded_bytes gs) p ≡ Some b
 element_byte n [] ok a i v k b p e at place = absurd (none-some v e)
 element_byte n (x ∷ gs) ok zero i v k b p e at place =
-    let here : p ≡ width_bytes x.width * i + k = omega (arith, place) in
-    rw here (get_before (global_bytes x) (padded_bytes gs) (width_bytes x.width * i + k) b
-    (get_before (elements_bytes x.width (first_values x)) (zeros (gap_behind x.width x.length)) (width_bytes x.width * i + k) b
-    (elements_byte x.width (first_values x) i v k b e at)))
+    let here = elements_byte x.width (first_values x) i v k b e at in
+    let own = get_before (elements_bytes x.width (first_values x)) (zeros (gap_behind x.width x.length)) _ b here in
+    grind (arith, get_before (global_bytes x) (padded_bytes gs) _ b own)
 element_byte n (x ∷ gs) ok (suc a) i v k b p e at place =
     let low = (element_within (n + 4 * word_count x) gs (λ a. ok (suc a)) a i v e).0 in
     let long = global_length x (ok 0 x refl) in
@@ -112,8 +107,7 @@ pub elements_apart : (n : ℕ) (gs : List RGlobal) → HaveValues gs → (a i b 
     → (place_behind gs (slice_index (starts_from n gs)) a i ≤ place_in gs (slice_index (starts_from n gs)) b j)
     ⊎ (place_behind gs (slice_index (starts_from n gs)) b j ≤ place_in gs (slice_index (starts_from n gs)) a i)
 elements_apart n [] ok a i b j v w e f ne = absurd (none-some v e)
-elements_apart n (x ∷ gs) ok zero i zero j v w e f ne = ⊎_elim (λ lt. inl (element_before x.width n i j lt))
-    (λ le. (let apart : i ≢ j = ne refl in inr (element_before x.width n j i (omega (arith, le, apart))))) (cases_lt i j)
+elements_apart n (x ∷ gs) ok zero i zero j v w e f ne = grind (arith, element_before x.width n i j, element_before x.width n j i, ne refl)
 elements_apart n (x ∷ gs) ok zero i (suc b) j v w e f ne =
     inl (omega (arith, global_inside x i v (ok 0 x refl) e, element_within (n + 4 * word_count x) gs (λ a. ok (suc a)) b j w f))
 elements_apart n (x ∷ gs) ok (suc a) i zero j v w e f ne =
@@ -143,13 +137,10 @@ data_below (x ∷ gs) =
     (All-append IsByte (elements_bytes x.width (first_values x)) (zeros gap) (elements_below x.width x.first.items) (All-replicate IsByte gap 0 (omega arith)))
     (data_below gs)
 
-kept_below : (w : Width) (v : ℕ) → kept w (wrap v) < 2 ^ 32
-kept_below w v = grind arith
-
 pub values_below : (gs : List RGlobal) (a i v : ℕ) → element_at (map first_values gs) a i ≡ Some v → v < 2 ^ 32
 values_below [] a i v e = absurd (none-some v e)
 values_below (x ∷ gs) zero i v e =
-    all_at (λ v. v < 2 ^ 32) (first_values x) i v (All-map (λ v. v < 2 ^ 32) _ x.first.items (λ j d lt. kept_below x.width _)) e
+    all_at (λ v. v < 2 ^ 32) (first_values x) i v (All-map (λ v. v < 2 ^ 32) _ x.first.items (λ j d lt. grind arith)) e
 values_below (x ∷ gs) (suc a) i v e = values_below gs a i v e
 
 pub have_values : (gs : List RGlobal) → All IsGlobal gs → HaveValues gs
@@ -172,10 +163,7 @@ starts_within n (x ∷ gs) (suc i) v e =
     omega (arith, starts_within (n + 4 * word_count x) gs i v e, sum_by-cons word_count x gs)
 
 pub starts_inside : (gs : List RGlobal) (starts : List ℕ) → starts ≡ starts_from 0 gs → sum_by word_count gs ≤ MAX_GLOBAL_WORDS → AreInside starts UNIT_BYTES
-starts_inside gs starts is few = record {
-  by = λ i v there. (let low = starts_within 0 gs i v (ap (λ l. slice_get l i) (sym is)
-      ∙ there) in omega (arith, low, few));
-}
+starts_inside gs starts is few = rw is (record { by = λ i v there. omega (arith, starts_within 0 gs i v there) })
 
 pub starts_length : (n : ℕ) (gs : List RGlobal) → length (starts_from n gs) ≡ length gs
 starts_length n [] = refl
@@ -217,8 +205,7 @@ none_beyond _ _ zero = refl
 starts_same : (xs ys : List ℕ) (k n : ℕ) → k < 4 → ys ≡ xs ++ zeros k → length ys ≡ 4 * n → start_state ys ≡ start_state xs
 starts_same xs ys k n low e long =
     let sum = ap length e ∙ length-append xs (zeros k) in
-    let zs = length-replicate {A = ℕ} k 0 in
-    let words : (length ys + 3) / 4 ≡ (length xs + 3) / 4 = omega (arith, low, sum, zs, long) in
+    let words : (length ys + 3) / 4 ≡ (length xs + 3) / 4 = omega (arith, sum, length-replicate {A = ℕ} k 0) in
     let memory : first_bytes ys ≡ first_bytes xs = fun_ext (λ a.
     ap (λ b. if nat_le stack_base a then 0 else (if nat_le data_base a then b else 0))
     (ap (λ l. slice_index l (a - data_base)) e ∙ none_beyond xs k (a - data_base))) in

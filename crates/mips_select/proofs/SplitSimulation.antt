@@ -29,18 +29,12 @@ module _ (most : ℕ) (place links : ℕ → ℕ) (word : ℕ) where
   pieces_return exit zero k insts rest = grind arith
   pieces_return exit (suc more) k insts rest = grind (arith, pieces_return exit more (suc k) (drop most insts) rest)
 
-  call_renumbered : (exit : Exit) (found : Bool) (rest : Option ℕ)
-      → call_return_of (renumbered_exit place exit) found (option_map place rest) ≡ option_map place (call_return_of exit found rest)
-  call_renumbered exit found rest = grind arith
-
   -- a return finds the first piece of the block that it finds in the long unit
   pub return_renumbered : (long : ℕ → ℕ) (k n : ℕ) (bs : List BlockParts) → ((j : ℕ) → long (n + j) ≡ links (slice_index (lasts most k bs) j))
       → return_block_of links word k (split_from most place k bs) ≡ option_map place (return_block_of long word n bs)
   return_renumbered long k n [] same = refl
   return_renumbered long k n (b ∷ bs) same =
-      let behind = return_renumbered long (k + count_of most b) (suc n) bs
-      (λ j. (let next : suc n + j ≡ n + suc j = omega arith in ap long next) ∙ same (suc j)) in
-      grind (arith, pieces_return, same 0, call_renumbered b.exit (long n == word) (return_block_of long word (suc n) bs), behind)
+      grind (arith, pieces_return, same 0, return_renumbered long (k + count_of most b) (suc n) bs (λ j. grind (arith, same (suc j))))
 
 -- where a call goes on is below what bounds all targets
 pub return_below : (links : ℕ → ℕ) (word bound k : ℕ) (bs : List BlockParts)
@@ -70,10 +64,8 @@ module _ (whole : List BlockParts) (links : ℕ → ℕ) where
     Leaves zero k behind e = (behind ≡ []) × (e ≡ exit)
     Leaves (suc more) k behind e = (e ≡ Goto (suc k)) × HasAt whole (suc k) (pieces most exit more (suc k) behind)
 
-    -- a piece behind which so many more come: what is left of it and what is behind it are what is left of the block
-    record Inside (more k : ℕ) (part rest : List Plain) : Type 0 where
-      behind : List Plain
-      same : rest ≡ part ++ behind
+    -- a piece behind which so many more come, with what is behind it of the block
+    record Inside (more k : ℕ) (behind : List Plain) : Type 0 where
       is_last : k + more ≡ last
       block : BlockParts
       there : slice_get whole k ≡ Some block
@@ -81,49 +73,39 @@ module _ (whole : List BlockParts) (links : ℕ → ℕ) where
 
     -- the first of several pieces
     enters : (more k : ℕ) (insts : List Plain) → HasAt whole k (pieces most exit more k insts) → k + more ≡ last
-        → (b : BlockParts) × (slice_get whole k ≡ Some b) × Inside more k b.insts insts
+        → (b : BlockParts) × (slice_get whole k ≡ Some b) × (behind : List Plain) × (insts ≡ b.insts ++ behind) × Inside more k behind
     enters zero k insts has is =
-        let at = has_head has in
-        (_, at, record { behind = []; same = sym (append-nil insts); is_last = is; block = _; there = at; leaves = (refl, refl) })
+        let at = has_head has in (_, at, [], sym (append-nil insts), record { is_last = is; block = _; there = at; leaves = (refl, refl) })
     enters (suc more) k insts has is =
         let at = has_head has in
-        let same = sym (take-append-drop most insts) in
-        (_, at, record { behind = drop most insts; same = same; is_last = is; block = _; there = at; leaves = (refl, has_tail has) })
+        (_, at, _, sym (take-append-drop most insts), record { is_last = is; block = _; there = at; leaves = (refl, has_tail has) })
 
     -- at the end of a piece the next one is entered
-    next : (more i k : ℕ) {rest : List Plain} (s : State) (out : List ℕ) (end : Outcome) → Inside (suc more) k [] rest
-        → ((part : List Plain) → Inside more (suc k) part rest → Reached i (suc k) part s out end) → Reached i k [] s out end
-    next more i k s out end at f =
-        let e = rw (← at.same) at (enters more (suc k) at.behind at.leaves.1 (omega (arith, at.is_last))) in
-        entered i k s out end at.there at.leaves.0 e.1 (f e.0.insts e.2)
+    next : (more i k : ℕ) {behind : List Plain} (s : State) (out : List ℕ) (end : Outcome) → Inside (suc more) k behind
+        → ((part rest : List Plain) → behind ≡ part ++ rest → Inside more (suc k) rest → Reached i (suc k) part s out end) → Reached i k [] s out end
+    next more i k {behind} s out end at f =
+        let e = enters more (suc k) behind at.leaves.1 (omega (arith, at.is_last)) in
+        entered i k s out end at.there at.leaves.0 e.1 (f e.0.insts e.2 e.3 e.4)
 
     -- an instruction of the block
-    steps : (more k : ℕ) (part : List Plain) (a : Plain) (rest : List Plain) (i : ℕ) (s : State) (out : List ℕ) (end : Outcome)
-        → Inside more k part (a ∷ rest)
-        → ((more k : ℕ) (part : List Plain) → Inside more k part rest → Reached i k part (state_after (action_of a) s) out end)
+    steps : (more k : ℕ) (part behind : List Plain) (a : Plain) (rest : List Plain) (i : ℕ) (s : State) (out : List ℕ) (end : Outcome)
+        → a ∷ rest ≡ part ++ behind → Inside more k behind
+        → ((more k : ℕ) (part behind : List Plain) → rest ≡ part ++ behind → Inside more k behind → Reached i k part (state_after (action_of a) s) out end)
         → Reached (suc i) k part s out (if is_safe (action_of a) s then end else wrong out)
-    steps more k (x ∷ part) a rest i s out end at f =
-        let same : a ∷ rest ≡ x ∷ (part ++ at.behind) = at.same in
-        let r = f more k part (record {
-          behind = at.behind;
-          same = cc;
-          is_last = at.is_last;
-          block = at.block;
-          there = at.there;
-          leaves = at.leaves;
-        }) in
-        (suc r.0, omega (arith, r.1), cc (r.2))
-    steps zero k [] a rest i s out end at f = let none : a ∷ rest ≡ [] = at.same ∙ at.leaves.0 in cc
-    steps (suc more) k [] a rest i s out end at f = next more (suc i) k s out _ at (λ part e. steps more (suc k) part a rest i s out end e f)
+    steps more k (x ∷ part) behind a rest i s out end same at f = let r = f more k part behind (cc) at in (suc r.0, omega (arith, r.1), cc (r.2))
+    steps zero k [] behind a rest i s out end same at f = let none : a ∷ rest ≡ [] = same ∙ at.leaves.0 in cc
+    steps (suc more) k [] behind a rest i s out end same at f =
+        next more (suc i) k s out _ at (λ part left e at. steps more (suc k) part left a rest i s out end (same ∙ e) at f)
 
     -- the exit of the block
-    leaves_last : (more k : ℕ) (part : List Plain) (i : ℕ) (s : State) (out : List ℕ) (end : Outcome) → Inside more k part []
+    leaves_last : (more k : ℕ) (part behind : List Plain) (i : ℕ) (s : State) (out : List ℕ) (end : Outcome) → [] ≡ part ++ behind → Inside more k behind
         → Comes i (λ go. exit_item whole links last (Some (piece [] exit)) go s out) end → Reached (suc i) k part s out end
-    leaves_last more k (x ∷ part) i s out end at r = let none : [] ≡ x ∷ (part ++ at.behind) = at.same in cc
-    leaves_last zero k [] i s out end at r =
+    leaves_last more k (x ∷ part) behind i s out end same at r = cc
+    leaves_last zero k [] behind i s out end same at r =
         let here : k ≡ last = omega (arith, at.is_last) in
         (suc r.0, omega (arith, r.1), cc (at.there, at.leaves.1, r.2))
-    leaves_last (suc more) k [] i s out end at r = next more (suc i) k s out end at (λ part e. leaves_last more (suc k) part i s out end e r)
+    leaves_last (suc more) k [] behind i s out end same at r =
+        next more (suc i) k s out end at (λ part left e at. leaves_last more (suc k) part left i s out end (same ∙ e) at r)
 
 -- ---- whole runs
 
@@ -143,8 +125,8 @@ module _ (most : ℕ) (blocks : List BlockParts) (linked : AreLinked blocks) (li
   -- a run of the pieces for a run of the long unit that is in block n
   abbrev Runs : ℕ → Type 0
   Runs i = (n : ℕ) (b : BlockParts) → slice_get blocks n ≡ Some b
-      → (rest : List Plain) (s : State) (out : List ℕ) (more k : ℕ) (part : List Plain)
-      → Inside whole links most (renumbered_exit place b.exit) (last n) more k part rest
+      → (rest : List Plain) (s : State) (out : List ℕ) (more k : ℕ) (part behind : List Plain) → rest ≡ part ++ behind
+      → Inside whole links most (renumbered_exit place b.exit) (last n) more k behind
       → Reached whole links i k part s out (items blocks long i n rest s out)
 
   module _ (i : ℕ) (runs : Runs i) where
@@ -159,7 +141,7 @@ module _ (most : ℕ) (blocks : List BlockParts) (linked : AreLinked blocks) (li
         let b = found.0 in
         let e = enters whole links most (renumbered_exit place b.exit) (last t) (more_pieces most b) (place t) b.insts
         (has_pieces most place whole 0 blocks (has_whole whole) t b found.1) (last_piece most 0 blocks t b found.1) in
-        let r = runs t b found.1 b.insts s out (more_pieces most b) (place t) e.0.insts e.2 in
+        let r = runs t b found.1 b.insts s out (more_pieces most b) (place t) e.0.insts e.2 e.3 e.4 in
         (r.0, r.1, cc (e.1, r.2, found.1))
 
     -- a return
@@ -194,15 +176,13 @@ module _ (most : ℕ) (blocks : List BlockParts) (linked : AreLinked blocks) (li
     departs n Halt low s out = (i, omega arith, refl)
 
   runs : (i : ℕ) → Runs i
-  runs zero n b there rest s out more k part at = (0, omega arith, refl)
-  runs (suc i) n b there (a ∷ rest) s out more k part at =
-      steps whole links most (renumbered_exit place b.exit) (last n) more k part a rest i s out
-      (items blocks long i n rest (state_after (action_of a) s) out) at
-      (λ more k part at. runs i n b there rest (state_after (action_of a) s) out more k part at)
-  runs (suc i) n b there [] s out more k part at =
-      let r = departs i (λ n b there rest s out more k part at. runs i n b there rest s out more k part at) n b.exit (linked.by n b there) s out in
-      rw there (leaves_last whole links most (renumbered_exit place b.exit) (last n) more k part i s out
-      (exit_item blocks long n (Some (piece [] b.exit)) (items blocks long i) s out) at r)
+  runs zero n b there rest s out more k part behind same at = (0, omega arith, refl)
+  runs (suc i) n b there (a ∷ rest) s out more k part behind same at =
+      steps whole links most (renumbered_exit place b.exit) (last n) more k part behind a rest i s out
+      (items blocks long i n rest (state_after (action_of a) s) out) same at (runs i n b there rest (state_after (action_of a) s) out)
+  runs (suc i) n b there [] s out more k part behind same at =
+      rw there (leaves_last whole links most (renumbered_exit place b.exit) (last n) more k part behind i s out
+      (exit_item blocks long n (Some (piece [] b.exit)) (items blocks long i) s out) same at (departs i (runs i) n b.exit (linked.by n b there) s out))
 
 -- from the start of block 0
 pub unit_runs : (most : ℕ) (blocks : List BlockParts) → AreLinked blocks → (links : ℕ → ℕ) (s : State) (i : ℕ)
