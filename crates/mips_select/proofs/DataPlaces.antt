@@ -190,11 +190,9 @@ data_ends gs =
     let front = take m gs in
     let back = drop m gs in
     let few : length back ≤ 1 = omega (arith, length-drop m gs) in
-    let one = one_ends back few in (
-      one.0,
-      one.1,
-      cc (take-append-drop m gs, padded_append front back, one.2, append_assoc (padded_bytes front) (bare_bytes back) (zeros one.0)),
-    )
+    let one = one_ends back few in
+    let joined = append_assoc (padded_bytes front) (bare_bytes back) (zeros one.0) in
+    (one.0, one.1, cc (take-append-drop m gs, padded_append front back, one.2, joined))
 
 none_beyond : (xs : List ℕ) (k i : ℕ) → slice_index (xs ++ zeros k) i ≡ slice_index xs i
 none_beyond [] (suc k) (suc i) = none_beyond [] k i

@@ -78,8 +78,7 @@ module _ (fs : List (List BlockParts)) (are : AreFunctions (length (blocks_of fs
   pub functions_owned : AreLinked (blocks_of fs) × AreOwners (blocks_of fs) (owners_of 0 fs)
   functions_owned = (
     record {
-      by = λ i b there. let at = place i (slice_get_within blocks i b there) in
-          grind (arith, at.fits, exit_within i b at there);
+      by = λ i b there. let at = place i (slice_get_within blocks i b there) in grind (arith, at.fits, exit_within i b at there);
     },
     record {
       lengths = length-owners_of 0 fs;

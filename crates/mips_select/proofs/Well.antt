@@ -67,11 +67,9 @@ module _ (most : ℕ) (some : 0 < most) (blocks : List BlockParts) where
       let at = located most 0 blocks i (omega (arith, slice_get_within whole i p there, length-split_from most place 0 blocks)) in
       let exit = renumbered_exit place at.block.exit in
       let is : i ≡ place at.number + at.behind = omega (arith, at.is) in
-      let many = length-pieces most exit (more_pieces most at.block) (place at.number) at.block.insts in (
-        at,
-        piece_at most exit (more_pieces most at.block) (place at.number) at.block.insts (omega arith) at.behind p
-            (has_get (at_block at.number at.block at.there) at.behind (omega (arith, at.within, many)) (rw is at there)),
-      )
+      let many = length-pieces most exit (more_pieces most at.block) (place at.number) at.block.insts in
+      let here = has_get (at_block at.number at.block at.there) at.behind (omega (arith, at.within, many)) (rw is at there) in
+      (at, piece_at most exit (more_pieces most at.block) (place at.number) at.block.insts (omega arith) at.behind p here)
 
   pub pieces_linked : AreLinked blocks → AreLinked whole
   pieces_linked linked = record {

@@ -10,13 +10,6 @@ emit_blocks-requires-clause-number c =
     rw (c.lead_in.ensures.value, c.requires.named, c.as_slice-blocks.ensures.value) (omega (arith, c.requires.number))
 
 pub returns : goal.returns
-returns c = IfOk-equal c.emit_blocks.result _ _ _ c.emit_blocks.ensures (rw (
-  c.in_ok-emit_lead.ensures,
-  c.head_at.ensures,
-  c.as_slice-places.ensures.value,
-  c.in_ok-numbers.ensures,
-  c.lead_in.ensures.value,
-  c.requires.named,
-  c.is_leaf.ensures,
-  c.as_slice-blocks.ensures.value,
-) (simp append_assoc))
+returns c = IfOk-equal c.emit_blocks.result _ _ _ c.emit_blocks.ensures
+    (rw (c.in_ok-emit_lead.ensures, c.head_at.ensures, c.as_slice-places.ensures.value, c.in_ok-numbers.ensures, c.lead_in.ensures.value)
+    (rw (c.requires.named, c.is_leaf.ensures, c.as_slice-blocks.ensures.value) (simp append_assoc)))

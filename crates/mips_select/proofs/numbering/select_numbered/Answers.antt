@@ -24,12 +24,8 @@ returns-in_err-unit-clause-limit c = told_beyond _ _ c.from_residual-in_err-unit
 pub returns-in_err-numbers-clause-limit : goal.returns-in_err-numbers-clause-limit
 returns-in_err-numbers-clause-limit c = told_beyond _ _ c.from_residual-in_err-numbers.ensures.1 c.in_ok-homed.ensures.lent c.in_ok-homed.ensures.places
     (λ e. let whole = program_blocks c.in_ok-homed.homed in
-    omega (
-      arith,
-      length-split_from BLOCK_INSTS (first_piece_of BLOCK_INSTS whole) 0 whole,
-      ap (total BLOCK_INSTS) c.in_ok-long.ensures.blocks,
-      c.in_err-numbers.ensures.limit e,
-    ))
+    let many = length-split_from BLOCK_INSTS (first_piece_of BLOCK_INSTS whole) 0 whole in
+    omega (arith, many, ap (total BLOCK_INSTS) c.in_ok-long.ensures.blocks, c.in_err-numbers.ensures.limit e))
 
 pub returns-clause-numbered : goal.returns-clause-numbered
 returns-clause-numbered c = record {

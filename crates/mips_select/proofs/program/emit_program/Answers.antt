@@ -17,18 +17,6 @@ emit_functions-requires-clause-functions c =
     ∙ ap length c.globals-globals.ensures.value)
 
 pub returns : goal.returns
-returns c =
-    rw (
-      c.in_ok-emit_functions.ensures,
-      c.in_ok-emit_end.ensures,
-      c.in_ok-emit_start.ensures,
-      c.in_ok-out.ensures.items,
-      c.number_at.ensures,
-      c.requires.entries,
-      c.as_slice-starts.ensures.value,
-      c.in_ok-table.ensures,
-      c.globals-globals.ensures.value,
-      c.functions-functions.ensures.value,
-      c.as_slice-frames.ensures.value,
-      c.main.ensures.value,
-    )
+returns c = rw (c.in_ok-emit_functions.ensures, c.in_ok-emit_end.ensures, c.in_ok-emit_start.ensures, c.in_ok-out.ensures.items, c.number_at.ensures)
+    (rw (c.requires.entries, c.as_slice-starts.ensures.value, c.in_ok-table.ensures, c.globals-globals.ensures.value)
+    (rw (c.functions-functions.ensures.value, c.as_slice-frames.ensures.value, c.main.ensures.value)))
