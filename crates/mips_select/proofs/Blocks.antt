@@ -38,8 +38,7 @@ pub named_here : (tables : List (Vec Naming Global)) (funcs : List RFunc) (i : �
     → i < length funcs → func ≡ get_or funcs i func → table ≡ get_or tables i table → table.items ≡ namings_of func
 named_here tables funcs i func table named lt func_is table_is =
     let at = get_or-map (λ (t : Vec Naming Global). t.items) tables i table [] (omega (arith, named_long tables funcs named, lt)) in
-    ap (λ (t : Vec Naming Global). t.items) table_is ∙ sym at ∙ ap (λ l. get_or l i []) named ∙ get_or-map namings_of funcs i func [] lt
-    ∙ ap namings_of (sym func_is)
+    grind (arith, at, ap (λ l. get_or l i []) named, get_or-map namings_of funcs i func [] lt)
 
 -- one more function
 pub functions_step : (l : Linking) (i : ℕ) {total : ℕ} (funcs : List RFunc) (fs : List Frame) (func : RFunc) (f : Frame)
@@ -63,8 +62,7 @@ pub parameters_more : (at : Locations) (t x n y u : ℕ) → y ≡ x + n → u �
 parameters_more at t x zero y u y_is u_is =
     grind (arith, append-nil (arrive (at x) t))
 parameters_more at t x (suc n) y u y_is u_is =
-    rw (parameters_more at (suc t) (suc x) n y u (omega (arith, y_is)) (omega (arith, u_is)))
-    (sym (append_assoc (arrive (at x) t) (parameters_code at (suc t) (suc x) n) (arrive (at y) u)))
+    rw (parameters_more at (suc t) (suc x) n y u (omega (arith, y_is)) (omega (arith, u_is))) (simp append_assoc)
 
 -- ---- pieces
 

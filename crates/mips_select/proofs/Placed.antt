@@ -109,9 +109,7 @@ module _ (whole : List BlockParts) (l : Linking) where
       → (x ≡ Enters → p.place 0 ≡ k) → ((d : ℕ) → x ≡ Takes d → ⊥)
       → ((slice_get whole k ≡ Some (prologue_block p.leaf p.frame p.parameters (p.place 0))) × (heads_code p 0 ≡ []))
       ⊎ ((k ≡ p.place 0) × (heads_code p 0 ≡ prologue p.leaf p.frame p.parameters))
-  begins p k rest Bare e has same none = inl (has_head has, ap (head_code p) e)
-  begins p k rest Enters e has same none = inr (sym (same refl), ap (head_code p) e)
-  begins p k rest (Takes d) e has same none = absurd (none d refl)
+  begins p k rest x e has same none = grind (arith, has_head)
 
   found : (k : ℕ) (funcs : List RFunc) (fs : List Frame) → HasAt whole k (functions_blocks l k funcs fs)
       → (g : ℕ) (func : RFunc) (f : Frame) → slice_get funcs g ≡ Some func → slice_get fs g ≡ Some f
@@ -125,7 +123,7 @@ module _ (whole : List BlockParts) (l : Linking) where
 
 first_place : (k : ℕ) (bs : List RBlock) → heads_of bs 0 ≡ Enters → slice_index (numbers (heads_of bs) (k + lead_in (heads_of bs)) bs) 0 ≡ k
 first_place k [] e = let no : Bare ≡ Enters = e in cc
-first_place k (b ∷ bs) e = ap (λ x. k + lead_of x) e ∙ omega arith
+first_place k (b ∷ bs) e = grind arith
 
 no_take : (bs : List RBlock) (d : ℕ) → heads_of bs 0 ≡ Takes d → ⊥
 no_take bs d e = grind arith

@@ -32,11 +32,9 @@ use Rattle.mips_select.proofs.Linked.{functions_joined}
 
 few_arguments : (functions : List RFunc) (globals blocks : ℕ) (x : RExit) → All (IsFunction functions globals) functions → IsExit functions blocks x
     → HasFewArguments x
-few_arguments functions globals blocks (Call g xs d next) all ok =
-    let callee = ok.0 in
-    let few = (all_at (IsFunction functions globals) functions g callee.callee all callee.there).parameters in
-    omega (arith, few, callee.takes)
-few_arguments functions globals blocks _ all ok = tt
+few_arguments functions globals blocks x all ok =
+    let few = λ (g : ℕ) (f : RFunc) (there : slice_get functions g ≡ Some f). (all_at (IsFunction functions globals) functions g f all there).parameters in
+    grind (arith, few)
 
 pub function_blocks_few : (p : Program) (functions : List RFunc) → IsProgram p → functions ≡ p.functions → (g : ℕ) (func : RFunc)
     → slice_get functions g ≡ Some func → length func.blocks.items ≤ MAX_BLOCKS

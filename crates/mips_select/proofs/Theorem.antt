@@ -141,8 +141,7 @@ module _ {h : Homed} {depth : ℕ} {blocks : List BlockParts} (ok : IsSelected h
 
   led : {count : ℕ} {to : Point} (u : Outcome) → Lead ok tells count start to → from blocks links 0 to ≡ u → unit_run blocks links s count ≡ u
   led {count} u lead e =
-      let none : count ≡ count + 0 = omega arith in
-      rw ok.start (ap (λ n. from blocks links n start) none ∙ lead.by 0 ∙ e)
+      rw ok.start (grind (arith, lead.by 0, e))
 
   same_end : (n : ℕ) (run : Run) → Comes n start run → (outcome run).end ≢ Wrong → (i : ℕ) × (n ≤ i) × (unit_run blocks links s i ≡ outcome run)
   same_end n (Running r [] g out) x ne = absurd x.match
