@@ -59,8 +59,7 @@ functions_step l i funcs fs func f out {out'} within same func_is f_is k_is e be
 -- one more parameter
 pub parameters_more : (at : Locations) (t x n y u : ℕ) → y ≡ x + n → u ≡ t + n
     → parameters_code at t x (suc n) ≡ parameters_code at t x n ++ arrive (at y) u
-parameters_more at t x zero y u y_is u_is =
-    grind (arith, append-nil (arrive (at x) t))
+parameters_more at t x zero y u y_is u_is = grind (arith, append-nil (arrive (at x) t))
 parameters_more at t x (suc n) y u y_is u_is =
     rw (parameters_more at (suc t) (suc x) n y u (omega (arith, y_is)) (omega (arith, u_is))) (simp append_assoc)
 

@@ -64,8 +64,7 @@ elements_byte w (x ∷ vs) (suc i) v k b at e =
 -- an element is inside its global
 global_inside : (x : RGlobal) (i v : ℕ) → length x.first.items ≡ x.length → slice_get (first_values x) i ≡ Some v
     → width_bytes x.width * i + width_bytes x.width ≤ 4 * word_count x
-global_inside x i v same at =
-    grind (arith, slice_get_within (first_values x) i v at, length-map x.first.items (λ v. kept x.width (wrap v)))
+global_inside x i v same at = grind (arith, slice_get_within (first_values x) i v at, length-map x.first.items (λ v. kept x.width (wrap v)))
 
 -- ---- all globals
 
@@ -159,8 +158,7 @@ data_fits gs ok le = omega (arith, data_length gs ok, le)
 starts_within : (n : ℕ) (gs : List RGlobal) (i v : ℕ) → slice_get (starts_from n gs) i ≡ Some v → v ≤ n + 4 * sum_by word_count gs
 starts_within n [] i v e = absurd (none-some v e)
 starts_within n (x ∷ gs) zero v e = omega (arith, same_Some n v e)
-starts_within n (x ∷ gs) (suc i) v e =
-    omega (arith, starts_within (n + 4 * word_count x) gs i v e, sum_by-cons word_count x gs)
+starts_within n (x ∷ gs) (suc i) v e = omega (arith, starts_within (n + 4 * word_count x) gs i v e, sum_by-cons word_count x gs)
 
 pub starts_inside : (gs : List RGlobal) (starts : List ℕ) → starts ≡ starts_from 0 gs → sum_by word_count gs ≤ MAX_GLOBAL_WORDS → AreInside starts UNIT_BYTES
 starts_inside gs starts is few = rw is (record { by = λ i v there. omega (arith, starts_within 0 gs i v there) })

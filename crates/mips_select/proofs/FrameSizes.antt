@@ -1,5 +1,5 @@
 -- Frames of chosen homes are within reach: copies are in registers of their own, and no frame is larger than its function says.
-use Rattle.std.proofs.Common.{◌≡◌, ℕ, zero, suc, ◌<◌, ◌≤◌, false, List, [], ◌∷◌, Some, refl, sym, ap, ◌∙◌, arith, true≢false, ◌-◌, ◌⊎◌}
+use Rattle.std.proofs.Common.{◌≡◌, ◌↔◌, ℕ, zero, suc, ◌<◌, ◌≤◌, false, List, [], ◌∷◌, Some, refl, sym, ap, ◌∙◌, arith, true≢false, ◌-◌, ◌⊎◌}
 use Rattle.std.proofs.Common.{inl, inr, true, length, nat_eq}
 use Rattle.std.specs.Prelude.{slice_get, if◌then◌else◌, slice_index}
 use Rattle.std.proofs.lemmas.Option.{same_Some, none-some, slice_get_within, slice_get-get_or}
@@ -161,15 +161,11 @@ module _ {func : RFunc} {f : Frame} (q : IsPlacedFor func f) where
       → k < f.slots
   in_slot x h k there slot e = omega (arith, (q.is).in_slots x k e, rw (has_slot f.homes.items x h there slot) at (q.placed).slots)
 
-  placed_home : (x : ℕ) (h : Home) → slice_get f.homes.items x ≡ Some h
-      → (slice_get (q.choice).homes.items x ≡ Some (cell h)) ⊎ GetsTemporaryIn func q.choice f q.is q.placed x (cell h) → IsHome f.slots h
-  placed_home x h there e = grind (arith, within func q.choice f q.is q.placed x, in_slot x h)
-
   pub placed_is_frame : (most : ℕ) → frame_bytes_of func ≤ most → IsFrame most f
   placed_is_frame most le = record {
     homes = record {
       copied = rw (q.placed).homes (copies_are func.blocks.items before plain);
-      by = λ x h there. placed_home x h there (case_of func q.choice f q.is q.placed x h there);
+      by = λ x h there. grind (arith, case_of func q.choice f q.is q.placed x h there, within func q.choice f q.is q.placed x, in_slot x h);
       apart = placed_apart func q.choice f q.is q.placed;
     };
     saved = λ j r there. let w = still_was f.homes.items (q.choice).saved.items j r (rw (q.placed).saved at there) in saved_range q.is w.0 r w.1;
@@ -205,15 +201,11 @@ pub largest_same : (h : Homed) → ArePlaced h → largest_by_homes h.frames.ite
 largest_same h ok = homes_many (h.rtl.now).functions h.frames.items ok.long
     (λ i func f there f_there. (let q = ok.by i func f there f_there in places_long_as func q.choice f q.is q.placed))
 
-pub fit_from_room : (h : Homed) (depth : ℕ) → ArePlaced h → HaveRoom h.frames.items depth → FramesFit h.rtl.now depth
-fit_from_room h depth ok room =
-    let same = sym (largest_same h ok) in record { frames = rw same room.frames; stack = rw same room.stack }
-
-pub room_from_fit : (h : Homed) (depth : ℕ) → ArePlaced h → FramesFit h.rtl.now depth → HaveRoom h.frames.items depth
-room_from_fit h depth ok fit = let same = largest_same h ok in record { frames = rw same fit.frames; stack = rw same fit.stack }
+pub room_fits : (h : Homed) (depth : ℕ) → ArePlaced h → HaveRoom h.frames.items depth ↔ FramesFit h.rtl.now depth
+room_fits h depth ok = grind (arith, largest_same h ok)
 
 pub reachable : (h : Homed) (depth : ℕ) → ArePlaced h → HaveRoom h.frames.items depth → AreReachable h.frames.items
 reachable h depth ok room = record {
   by = λ g f there. (let frame = are_frames h ok g f there in let fits = frame.fits in
-      let small = (fit_from_room h depth ok room).frames in record { homes = frame.homes; saved = frame.saved; fits = omega (arith, fits, small) });
+      let small = ((room_fits h depth ok).0 room).frames in record { homes = frame.homes; saved = frame.saved; fits = omega (arith, fits, small) });
 }

@@ -2,13 +2,11 @@ pub mod Places
 pub mod SplitSimulation
 pub mod Well
 pub mod Owned
-mod Named
 mod Blocks
 mod DataPlaces
 mod Linked
 mod Frames
 mod Calls
-mod Departures
 mod Simulation
 mod Theorem
 mod Lists

@@ -46,8 +46,7 @@ pub has_pieces : (most : ℕ) (place : ℕ → ℕ) (whole : List BlockParts) (k
     → HasAt whole (slice_index (firsts most k bs) n)
     (pieces most (renumbered_exit place b.exit) (more_pieces most b) (slice_index (firsts most k bs) n) b.insts)
 has_pieces most place whole k [] has n b there = absurd (none-some b there)
-has_pieces most place whole k (x ∷ bs) has zero b there =
-    rw (← same_Some x b there) (has_front _ _ has)
+has_pieces most place whole k (x ∷ bs) has zero b there = rw (← same_Some x b there) (has_front _ _ has)
 has_pieces most place whole k (x ∷ bs) has (suc n) b there =
     has_pieces most place whole (k + count_of most x) bs (has_back _ _ has (ap (λ n. k + n) (length-pieces most _ _ k _))) n b there
 
@@ -117,8 +116,7 @@ pub first_next : (most k : ℕ) (bs : List BlockParts) (n : ℕ) (a b : BlockPar
     → slice_index (firsts most k bs) (suc n) ≡ suc (slice_index (firsts most k bs) n + more_pieces most a)
 first_next most k [] n a b a_there b_there = absurd (none-some a a_there)
 first_next most k (x ∷ []) zero a b a_there b_there = absurd (none-some b b_there)
-first_next most k (x ∷ y ∷ bs) zero a b a_there b_there =
-    omega (arith, ap (λ (b : BlockParts). more_pieces most b) (same_Some x a a_there))
+first_next most k (x ∷ y ∷ bs) zero a b a_there b_there = omega (arith, ap (λ (b : BlockParts). more_pieces most b) (same_Some x a a_there))
 first_next most k (x ∷ bs) (suc n) a b a_there b_there = first_next most (k + count_of most x) bs n a b a_there b_there
 
 -- a piece is short. The last one has the block's exit, each other one goes to the next

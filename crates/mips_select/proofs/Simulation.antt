@@ -1,11 +1,12 @@
 -- Each step over homes is one or more items of the unit.
-use Rattle.std.proofs.Common.{◌≡◌, ℕ, zero, suc, ◌+◌, ◌*◌, ◌≤◌, ◌==◌, ◌⊎◌, inl, inr, Bool, true, false, eqb-true, ◌&&◌, List, []}
-use Rattle.std.proofs.Common.{◌∷◌, ◌++◌, length, Option, Some, None, refl, sym, ap, ◌∙◌, subst, arith, nat_eq, nat_lt, true≢false, ltb-true}
+use Rattle.std.proofs.Common.{◌≡◌, ℕ, zero, suc, ◌+◌, ◌*◌, ◌≤◌, ◌==◌, ◌⊎◌, inl, inr, Bool, true, false, eqb-true, ◌&&◌, List, [], ◌∷◌, ◌++◌}
+use Rattle.std.proofs.Common.{length, Option, Some, None, refl, sym, ap, ◌∙◌, subst, arith, nat_eq, nat_lt, true≢false, ltb-true, ◌<◌}
+use Rattle.std.proofs.Common.{eq-eqb, ⊎_elim}
 use Rattle.std.specs.Prelude.{if◌then◌else◌, not, slice_get}
 use Rattle.std.proofs.lemmas.List.{append-nil, append_assoc}
 use Rattle.std.proofs.lemmas.Option.{same_Some, none-some, slice_get_within}
 use Rattle.std.proofs.Math.Nat.{mul-le-mul_right}
-use Rattle.std.proofs.lemmas.Bool.{and_parts, cond_both}
+use Rattle.std.proofs.lemmas.Bool.{and_parts, cond_both, cases_eq}
 use Rattle.runs.specs.Stores.{Places, places_with, unset_places, Arrays}
 use Rattle.mips_isa.specs.declared.inst.Plain.{Plain}
 use Rattle.mips_isa.specs.States.{State}
@@ -14,7 +15,7 @@ use Rattle.mblock.specs.declared.exit.Exit.{Exit}
 use Rattle.mblock.specs.declared.exit.Exit.TheVariants as E
 use Rattle.mblock.specs.Parts.{BlockParts}
 use Rattle.mblock.specs.BlockMeaning.{exit_effect}
-use Rattle.mblock.specs.UnitRuns.{items, outcome_of_departure, return_block_of, TellsApart}
+use Rattle.mblock.specs.UnitRuns.{items, outcome_of_departure, return_block_of, TellsApart, outcome_at_block, is_call}
 use Rattle.rtl.specs.declared.instruction.RInst.{RInst}
 use Rattle.rtl.specs.declared.instruction.RExit.{RExit}
 use Rattle.rtl.specs.declared.instruction.RExit.TheVariants.{Goto, Branch, Call, Return, Out}
@@ -22,9 +23,10 @@ use Rattle.rtl.specs.declared.block.RBlock.{RBlock}
 use Rattle.rtl.specs.declared.block.RFunc.{RFunc}
 use Rattle.rtl.specs.declared.block.RGlobal.{RGlobal}
 use Rattle.rtl.specs.Meaning.{Code, code_of}
-use Rattle.mips_homes.specs.HomedRun.{cells, around, Activation, new_activation, at_code, Run, Running, Ended, Failed, with_value, read_home, read_homes}
-use Rattle.mips_homes.specs.HomedRun.{is_callee_saved, callee_saved, write_homes, registers_at_entry, registers_at_return, state_at_block, with_result, state_after_return}
-use Rattle.mips_homes.specs.HomedRun.{state_after_exit, step_at, homed_step, homed_steps}
+use Rattle.mips_homes.specs.HomedRun.{cells, around, Activation, new_activation, at_code, Run, Running, Ended, Failed, with_value}
+use Rattle.mips_homes.specs.HomedRun.{read_home, read_homes, is_callee_saved, callee_saved, write_homes, registers_at_entry}
+use Rattle.mips_homes.specs.HomedRun.{registers_at_return, state_at_block, with_result, state_after_return, state_after_exit, step_at}
+use Rattle.mips_homes.specs.HomedRun.{homed_step, homed_steps}
 use Rattle.mips_homes.specs.declared.homed.Frame.{Frame}
 use Rattle.mips_homes.specs.declared.homed.Home.{Home}
 use Rattle.mips_homes.specs.declared.homed.Homed.{Homed}
@@ -33,25 +35,82 @@ use Rattle.mips_emit.specs.declared.facts.Last.{Last}
 use Rattle.mips_emit.specs.declared.location.Source.{Source}
 use Rattle.mips_emit.specs.Locations.{Facts, no_facts, known_in, locations, learned, known_after, fresh_of, last_operand}
 use Rattle.mips_emit.specs.Code.{inst_code}
-use Rattle.mips_emit.specs.Comparisons.{comparison_code, comparison_of, asked_last, next_code, last_with, no_last, last_after}
-use Rattle.mips_emit.specs.Comparisons.{tested, branch_code, branch_exit, is_result, returned, return_code}
+use Rattle.mips_emit.specs.Comparisons.{comparison_code, comparison_of, asked_last, next_code, last_with, no_last, last_after, tested}
+use Rattle.mips_emit.specs.Comparisons.{branch_code, branch_exit, is_result, returned, return_code, exit_by_form}
 use Rattle.mips_emit.specs.Frames.{IsFrame}
 use Rattle.mips_emit.proofs.Runs.{RunsTo, if_some, runs_none, runs_then, Point, At, Stopped, from, Leads, leads_then, leads_run, leads_exit}
 use Rattle.mips_emit.proofs.View.{word_at, set, set_words, put_here, put_other, moves}
 use Rattle.mips_emit.proofs.Stands.{Stored, stack_room, Stands}
-use Rattle.mips_emit.proofs.Operands.{passes, Denotes, hide, AreDeferred, none_deferred, AreBases, no_bases, IsLast, none_last, frame_homes, IsKnown, nothing_known}
+use Rattle.mips_emit.proofs.Operands.{passes, Denotes, hide, AreDeferred, none_deferred, AreBases, no_bases, IsLast, none_last, frame_homes}
+use Rattle.mips_emit.proofs.Operands.{IsKnown, nothing_known}
 use Rattle.mips_emit.proofs.Homes.{fewer_stand, words_kept, call_kept, last_means, fetches, carries, sets_kept, caller_saved_kept, arrives}
 use Rattle.mips_emit.proofs.Insts.{value_or_failed, performs}
-use Rattle.mips_emit.proofs.Comparing.{none_asked, waiting, compares}
+use Rattle.mips_emit.proofs.Comparing.{none_asked, waiting, compares, asked_result, returned_result}
 use Rattle.mips_select.specs.declared.limits.TheConstants.{STACK_BYTES}
 use Rattle.mips_select.specs.Data.{padded_bytes, start_of}
 use Rattle.mips_select.specs.Plans.{Linking, Placing, placing_of}
-use Rattle.mips_select.specs.Code.{epilogue, asked_of, exit_code, exit_of, code_insts}
-use Rattle.mips_select.specs.Code.{context_in, own_block, result_code, after_block}
+use Rattle.mips_select.specs.Code.{epilogue, asked_of, exit_code, exit_of, code_insts, context_in, own_block, result_code, after_block}
 use Rattle.mips_select.specs.Selected.{GoesOn, StandsAt, IsPlaced, IsFunction, IsSelected}
-use Rattle.mips_select.proofs.Departures.{branch_words, either, above_arguments, goes_by, tested_by, returned_by, same_left, return_found}
 use Rattle.mips_select.proofs.Frames.{all_denote, arguments, parameters}
 use Rattle.mips_select.proofs.Calls.{stored_frame, frames_of, linked_frames, enters, leaves_frame}
+use Rattle.mips_emit.specs.declared.comparison.Form.{Form}
+use Rattle.std.proofs.lemmas.Bool.Decides.{nat_tests}
+use Rattle.mips_select.proofs.Places.{HasAt, has_whole, has_head, has_tail}
+
+-- ---- how blocks are left, apart from what the unit does then
+
+pub branch_words : (place : ℕ → ℕ) (x y : ℕ) (b : Bool) → (if not b then place y else place x) ≡ place (if b then x else y)
+branch_words place x y b = grind arith
+
+pub either : (head : ℕ → List Plain) (x y : ℕ) (b : Bool) → (head y ≡ []) × (head x ≡ []) → head (if b then x else y) ≡ []
+either head x y b e = grind arith
+
+-- a callee-saved register is none of those in which arguments are passed
+pub above_arguments : (r : Places) (q w : ℕ) → callee_saved r q ≡ Some w → 8 ≤ q
+above_arguments r q w e = grind (arith, nat_tests)
+
+-- a branch for a comparison
+pub goes_by : (blocks : List BlockParts) (links : ℕ → ℕ) (form : Form) (x y : Source) (t e : ℕ) (k : ℕ) (s : State) (out : List ℕ) (n : ℕ)
+    → outcome_of_departure blocks links (exit_effect (exit_by_form form x y t e) s (links k)).goes (items blocks links n)
+    (exit_effect (exit_by_form form x y t e) s (links k)).state out
+    ≡ outcome_at_block (if passes form x y s then t else e) (slice_get blocks (if passes form x y s then t else e)) (items blocks links n) s out
+goes_by blocks links form x y t e k s out n = grind arith
+
+-- by which comparison a branch or a return goes
+pub tested_by : (p : Option Comparison) (x : ℕ) (m : Comparison) → tested p x ≡ Some m → (p ≡ Some m) × (m.result ≡ x)
+tested_by p x m e = grind (arith, nat_tests)
+
+pub returned_by : (p : Option Comparison) (x : ℕ) → returned p x ≡ true
+    → (m : Comparison) × (p ≡ Some m) × (is_result m.form ≡ true) × (m.result ≡ x)
+returned_by p x e = grind (arith, nat_tests)
+
+-- behind a comparison neither the exit nor what stands before it goes by what is known
+pub same_left : (l : Linking) (p : Placing) (facts known known' : Facts) (i : RInst) (m : Comparison) (n : ℕ) (x : RExit)
+    → comparison_of (locations p.frame) facts (asked_of x) i ≡ Some m
+    → (exit_of l p known (last_with (Some m) None) n x ≡ exit_of l p known' (last_with (Some m) None) n x)
+    × (exit_code p.leaf p.frame known (last_with (Some m) None) x ≡ exit_code p.leaf p.frame known' (last_with (Some m) None) x)
+same_left l p facts known known' i m n x is = grind (arith, asked_result, returned_result, none_asked (locations p.frame) facts i m)
+
+-- ---- where a call goes on
+
+-- the call of block k goes on where its link leads back
+module _ (links : ℕ → ℕ) (blocks : List BlockParts) (k f n : ℕ) (b : BlockParts) (tells : TellsApart links blocks) (there : slice_get blocks k ≡ Some b)
+    (is : b.exit ≡ E.Call f n) where
+  found_from : (base : ℕ) (bs : List BlockParts) → HasAt blocks base bs → base ≤ k → k < base + length bs
+      → return_block_of links (links k) base bs ≡ Some n
+  found_from base [] has low high = absurd (omega (arith, low, high))
+  found_from base (x ∷ bs) has low high = ⊎_elim
+      (λ here. let same : Some b ≡ Some x = sym there ∙ ap (slice_get blocks) (sym here) ∙ has_head has in
+      cc (same_Some b x same, eq-eqb (links base) (links k) (ap links here)))
+      (λ other. let no_call = λ (call : is_call x.exit ≡ true) (same : (links base == links k) ≡ true).
+      other (tells.apart base k x b (has_head has) there call (ap is_call is) (eqb-true (links base) (links k) same)) in
+      rw (found_from (suc base) bs (has_tail has) (omega (arith, low, other)) (omega (arith, high))) (grind (arith, no_call)))
+      (cases_eq base k)
+
+  pub return_found : return_block_of links (links k) 0 blocks ≡ Some n
+  return_found = found_from 0 blocks (has_whole blocks) (omega arith) (omega (arith, slice_get_within blocks k b there))
+
+-- ---- steps
 
 module _ {h : Homed} {depth : ℕ} {blocks : List BlockParts} (ok : IsSelected h depth blocks) {links : ℕ → ℕ} (tells : TellsApart links blocks) where
   abbrev pub gs : List RGlobal

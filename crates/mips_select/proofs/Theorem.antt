@@ -39,8 +39,7 @@ use Rattle.mips_select.specs.Whole.{program_blocks}
 use Rattle.mips_select.specs.Laws.{EachUnitKeepsRuns}
 use Rattle.mips_select.proofs.DataPlaces.{HaveValues, have_values, data_fits, element_within, element_byte, start_even, elements_apart, data_below}
 use Rattle.mips_select.proofs.DataPlaces.{values_below, data_starts_same}
-use Rattle.mips_select.proofs.Departures.{return_found}
-use Rattle.mips_select.proofs.Simulation.{Lead, Reach, code_leads, departs, reach_after, entered, runs}
+use Rattle.mips_select.proofs.Simulation.{Lead, Reach, code_leads, departs, reach_after, entered, return_found, runs}
 use Rattle.mips_select.proofs.Linked.{program_well}
 use Rattle.mips_select.proofs.Placed.{program_selected}
 use Rattle.mips_select.proofs.SplitSimulation.{comes_to}
@@ -51,8 +50,7 @@ entry_unset saved = fun_ext (λ r. grind arith)
 
 -- a byte of data at the start
 data_byte : (data_list : List ℕ) (p b : ℕ) → length data_list ≤ UNIT_BYTES → slice_get data_list p ≡ Some b → first_bytes data_list (data_base + p) ≡ b
-data_byte l p b few there =
-    grind (arith, nat_tests, slice_get_within l p b there, get_or_from_slice_get l p b 0 there)
+data_byte l p b few there = grind (arith, nat_tests, slice_get_within l p b there, get_or_from_slice_get l p b 0 there)
 
 module _ (l : List ℕ) (few : length l ≤ UNIT_BYTES) where
   -- what a load sees where the bytes of an element stand
@@ -140,8 +138,7 @@ module _ {h : Homed} {depth : ℕ} {blocks : List BlockParts} (ok : IsSelected h
       (omega (arith, ok.small)) (return_found links blocks 0 (ok.entry main) 1 (start_block (ok.entry main)) tells ok.start refl)))))
 
   led : {count : ℕ} {to : Point} (u : Outcome) → Lead ok tells count start to → from blocks links 0 to ≡ u → unit_run blocks links s count ≡ u
-  led {count} u lead e =
-      rw ok.start (grind (arith, lead.by 0, e))
+  led {count} u lead e = rw ok.start (grind (arith, lead.by 0, e))
 
   same_end : (n : ℕ) (run : Run) → Comes n start run → (outcome run).end ≢ Wrong → (i : ℕ) × (n ≤ i) × (unit_run blocks links s i ≡ outcome run)
   same_end n (Running r [] g out) x ne = absurd x.match

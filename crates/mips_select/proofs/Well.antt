@@ -57,8 +57,7 @@ module _ (most : ℕ) (some : 0 < most) (blocks : List BlockParts) where
       slice_get_within whole (place n + j) p.0 ((at_block n b there).by j p.0 p.1)
 
   place_below : (t : ℕ) → t < length blocks → place t < length whole
-  place_below t lt =
-      let b = block_there blocks t lt in omega (arith, piece_there t b.0 b.1 0 (omega arith))
+  place_below t lt = let b = block_there blocks t lt in omega (arith, piece_there t b.0 b.1 0 (omega arith))
 
   -- piece i of the unit
   pub piece_of : (i : ℕ) (p : BlockParts) → slice_get whole i ≡ Some p → (at : Located most 0 blocks i)

@@ -10,8 +10,7 @@ pub block_numbers-requires-clause-small : goal.block_numbers-requires-clause-sma
 block_numbers-requires-clause-small c = λ g func there. function_blocks_few _ _ c.functions.ensures.sound c.functions.ensures.value g func there
 
 pub block_numbers-requires-clause-number : goal.block_numbers-requires-clause-number
-block_numbers-requires-clause-number c =
-    omega (arith, ap functions_size c.functions.ensures.value, c.in_ok-long.ensures.few)
+block_numbers-requires-clause-number c = omega (arith, ap functions_size c.functions.ensures.value, c.in_ok-long.ensures.few)
 
 pub returns-in_err-long-clause-limit : goal.returns-in_err-long-clause-limit
 returns-in_err-long-clause-limit c = told_beyond _ _ c.from_residual-in_err-long.ensures.1 c.in_ok-homed.ensures.lent c.in_ok-homed.ensures.places

@@ -26,8 +26,7 @@ count_function-size-requires-clause-few c =
     c.requires c.loop-func.func-index c.func-item.result (slice_get_read _ _ c.loop-func.func-index _ refl c.loop-func-test.true c.func-item.is)
 
 pub number-requires : goal.number-requires
-number-requires c =
-    omega (arith, function_some c.func-item.result.blocks.items, c.count_function-size.ensures.value, c.if-size-k.false)
+number-requires c = omega (arith, function_some c.func-item.result.blocks.items, c.count_function-size.ensures.value, c.if-size-k.false)
 
 pub returns-then-size-k-clause-limit : goal.returns-then-size-k-clause-limit
 returns-then-size-k-clause-limit c = λ _.
