@@ -31,17 +31,14 @@ use Rattle.mips_select.specs.Emittable.{HasFewArguments}
 
 -- ---- operands and results
 
-fetch_few : (t : ℕ) (x : Source) → length (fetch t x) ≤ 2
-fetch_few t x = grind arith
-
-bring_few : (t : ℕ) (x : Source) → length (bring t x) ≤ 2
-bring_few t x = grind arith
+source_few : (t : ℕ) (x : Source) → (length (fetch t x) ≤ 2) × (length (bring t x) ≤ 2)
+source_few t x = grind arith
 
 carry_few : (t : ℕ) (x : Source) → length (carry t x) ≤ 2
-carry_few t x = grind (arith, bring_few t x)
+carry_few t x = grind (arith, source_few t x)
 
 put_few : (o : Option Home) (x : Source) → length (put_at o x) ≤ 8
-put_few o x = grind (arith, length-append {A = Plain}, bring_few, fetch_few)
+put_few o x = grind (arith, length-append {A = Plain}, source_few)
 
 moved_few : (r t : ℕ) → length (carry r (From (Reg t))) ≤ 1
 moved_few r t = grind arith
@@ -57,18 +54,18 @@ arrive_one hs x t none = grind (arith, moved_few, none x)
 -- ---- operators
 
 op_few : (op : Op) (t d : ℕ) (x y : Operand) → length (op_code op t d x y) ≤ 6
-op_few op t d x y = grind (arith, length-append {A = Plain}, fetch_few)
+op_few op t d x y = grind (arith, length-append {A = Plain}, source_few)
 
 -- ---- instructions
 
 element_few : (w : Width) (start : ℕ) (by : Reach) (x : Source) → length (element_code w start by x) ≤ 5
-element_few w start by x = grind (arith, length-append {A = Plain}, fetch_few)
+element_few w start by x = grind (arith, length-append {A = Plain}, source_few)
 
 inst_few : (globals : List RGlobal) (starts : ℕ → ℕ) (at : Locations) (facts : Facts) (i : RInst) → length (inst_code globals starts at facts i) ≤ 8
-inst_few globals starts at facts i = grind (arith, length-append {A = Plain}, put_few, op_few, element_few, fetch_few, bring_few)
+inst_few globals starts at facts i = grind (arith, length-append {A = Plain}, put_few, op_few, element_few, source_few)
 
 next_few : (c : Context) (facts : Facts) (o : Option Comparison) (i : RInst) → length (next_code c facts o i) ≤ 8
-next_few c facts o i = grind (arith, length-append {A = Plain}, inst_few, op_few, fetch_few)
+next_few c facts o i = grind (arith, length-append {A = Plain}, inst_few, op_few, source_few)
 
 pub insts_few : (c : Context) (asked : Asked) (facts : Facts) (is : List RInst) (behind : List Plain)
     → length (insts_code c asked facts is behind) ≤ 8 * length is + length behind
@@ -122,7 +119,7 @@ behind_most _ = 0
 pub exit_few : (leaf : Bool) (f : Frame) (facts : Facts) (last : Last) (x : RExit) → length f.saved.items ≤ 8 → HasFewArguments x
     → length (exit_code leaf f facts last x) + behind_most x ≤ exit_most leaf
 exit_few leaf f facts last x eight few =
-    grind (arith, arguments_few, epilogue_few leaf f eight, carry_few, fetch_few, length-append {A = Plain})
+    grind (arith, arguments_few, epilogue_few leaf f eight, carry_few, source_few, length-append {A = Plain})
 
 pub result_few : (at : Locations) (o : Option ℕ) → length (result_code at o) ≤ 2
 result_few at o = grind (arith, arrive_few)

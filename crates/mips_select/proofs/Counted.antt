@@ -33,14 +33,10 @@ abbrev words_in : List BlockParts → ℕ
 words_in [] = 0
 words_in (b ∷ bs) = length b.insts + words_in bs
 
-words_append : (xs ys : List BlockParts) → words_in (xs ++ ys) ≡ words_in xs + words_in ys
-words_append [] ys = omega arith
-words_append (x ∷ xs) ys = omega (arith, words_append xs ys)
-
--- cut at 512 instructions
-total_append : (xs ys : List BlockParts) → total 512 (xs ++ ys) ≡ total 512 xs + total 512 ys
-total_append [] ys = omega arith
-total_append (x ∷ xs) ys = omega (arith, total_append xs ys)
+-- both are sums over blocks, which are cut at 512 instructions
+all_append : (xs ys : List BlockParts) → (words_in (xs ++ ys) ≡ words_in xs + words_in ys) × (total 512 (xs ++ ys) ≡ total 512 xs + total 512 ys)
+all_append [] ys = omega arith
+all_append (x ∷ xs) ys = omega (arith, all_append xs ys)
 
 total_few : (bs : List BlockParts) → 512 * total 512 bs ≤ 512 * length bs + words_in bs
 total_few [] = omega arith
@@ -70,7 +66,7 @@ module _ (l : Linking) (p : Planning) (eight : length p.frame.saved.items ≤ 8)
       let exit = exit_few p.leaf p.frame facts last b.exit eight few in
       let code = insts_few (context_in l p.placing) (asked_of b.exit) no_facts b.insts.items (exit_code p.leaf p.frame facts last b.exit) in
       let more = blocks_from l p (k + count p.heads b.exit) (suc j) bs in
-      omega (arith, exit, code, behind_few b.exit, rest, length-append {A = Plain}, length-append (behind p b.exit) more, words_append (behind p b.exit) more)
+      omega (arith, exit, code, behind_few b.exit, rest, length-append {A = Plain}, length-append (behind p b.exit) more, all_append (behind p b.exit) more)
 
   -- what an exit has at most, and a prologue with it
   most : (leaf : Bool) → (exit_most leaf ≤ 12) × (prologue_most leaf + exit_most leaf ≤ 28)
@@ -110,7 +106,7 @@ function_few l n k (b ∷ bs) f is =
     let rest = rest_few l p is.eight is.four is.alone (λ j. grind (arith, nat_tests, result_few (locations p.frame))) (k + lead_in heads + count heads b.exit) 0 bs
     (λ i c e. is.few (suc i) c e) in
     let first = one_few l p is.eight is.four is.alone (k + lead_in heads) 0 b bs (is.few 0 b refl) rest in
-    omega (arith, lead, fits, first, length-append {A = BlockParts}, words_append)
+    omega (arith, lead, fits, first, length-append {A = BlockParts}, all_append)
 
 -- ---- the program
 
@@ -120,7 +116,7 @@ functions_few : (l : Linking) (k : ℕ) (funcs : List RFunc) (fs : List Frame)
 functions_few l k (func ∷ funcs) (f ∷ fs) each =
     let one = function_few l func.parameters k func.blocks.items f (each 0 func f refl refl) in
     let rest = functions_few l (k + function_size func) funcs fs (λ i g h eg eh. each (suc i) g h eg eh) in
-    omega (arith, one.blocks_few, one.words_few, total_few, rest, total_append)
+    omega (arith, one.blocks_few, one.words_few, total_few, rest, all_append)
 functions_few l k _ _ each = omega arith
 
 pub each_counted_by_exits : EachUnitIsCountedByExits

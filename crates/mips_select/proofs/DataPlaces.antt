@@ -120,8 +120,7 @@ abbrev IsByte : ℕ → Type 0
 IsByte b = b < 2 ^ 8
 
 element_below : (w : Width) (v : ℕ) → All IsByte (element_bytes w (kept w v))
-element_below Byte v = All-from_recursion IsByte (element_bytes Byte (kept Byte v)) (omega arith)
-element_below Word v = All-from_recursion IsByte (element_bytes Word (kept Word v)) (omega arith)
+element_below w v = All-from_recursion IsByte (element_bytes w (kept w v)) (grind arith)
 
 elements_below : (w : Width) (vs : List ℕ) → All IsByte (elements_bytes w (map (λ v. kept w (wrap v)) vs))
 elements_below w [] = All-nil IsByte

@@ -57,15 +57,11 @@ pub record Restored (at : ℕ) (rs : List ℕ) (s : State) : Type 0 where
 
 module _ {total n : ℕ} where
   stack_open : {s : State} → InStack total n s → (o : ℕ) → o % 4 ≡ 0 → o < n → (s.regs 29 + o < 2 ^ 32) × (is_open Word s.mapped (s.regs 29 + o) ≡ true)
-  stack_open {s} h o o4 lt = (
-    omega (arith, h.high, lt),
-    rw h.mapped (open_stack total (s.regs 29 + o) (omega (arith, h.aligned, o4)) (omega (arith, h.low)) (omega (arith, h.high, lt))),
-  )
+  stack_open {s} h o o4 lt = grind (arith, open_stack total (s.regs 29 + o))
 
   -- it stays so where neither the stack pointer nor what is mapped changes
   pub still_in : {s t : State} → InStack total n s → t.regs 29 ≡ s.regs 29 → t.mapped ≡ s.mapped → IsWords t → InStack total n t
-  still_in h pointer mapped words =
-      record { mapped = mapped ∙ h.mapped; words = words; aligned = rw pointer h.aligned; low = rw pointer h.low; high = rw pointer h.high }
+  still_in h pointer mapped words = grind arith
 
   pub saves_run : (at : ℕ) (rs : List ℕ) {s : State} → InStack total n s → AreKept rs → at % 4 ≡ 0 → at + 4 * length rs ≤ n → Saved at rs s
   saves_run at [] {s} h kept at4 le = record {

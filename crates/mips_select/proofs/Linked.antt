@@ -86,9 +86,7 @@ module _ (l : Linking) (functions : List RFunc) (bound : ℕ) (entry_below : (g 
     exit_goes k facts last x ok le = grind (arith, place_from, entry_below, slice_get_within functions)
 
     behind_goes : (x : RExit) → IsExit functions blocks x → All Goes (behind p x)
-    behind_goes (Call g xs d next) ok = cond_both (resumes d (p.heads next)) [] (after_block p.frame d (p.place next) ∷ []) (All Goes)
-        (λ _. All-nil Goes) (λ _. All-cons Goes _ [] (place_below next ((ok.1).1).1) (All-nil Goes))
-    behind_goes _ ok = All-nil Goes
+    behind_goes x ok = grind (arith, place_below, All-nil Goes, All-cons Goes)
 
     blocks_go : (k j : ℕ) (bs : List RBlock) → k + size_of_blocks p.heads bs ≤ bound → All GivenBlock bs → All Goes (blocks_from l p k j bs)
     blocks_go k j [] le ok = All-nil Goes
@@ -102,8 +100,7 @@ module _ (l : Linking) (functions : List RFunc) (bound : ℕ) (entry_below : (g 
         (blocks_go (k + count p.heads x.exit) (suc j) bs (omega (arith, le)) (All-tail GivenBlock x bs ok)))
 
     lead_goes : (head : Head) → 0 < blocks → All Goes (lead_blocks p head)
-    lead_goes Enters some = All-nil Goes
-    lead_goes _ some = All-cons Goes _ [] (place_below 0 some) (All-nil Goes)
+    lead_goes head some = grind (arith, place_below, All-nil Goes, All-cons Goes)
 
   abbrev GivenFunction : RFunc → Type 0
   GivenFunction func = IsFunction functions (length l.globals) func

@@ -12,14 +12,7 @@ use Rattle.mips_select.proofs.numbers.number_functions.Goals as goal
 
 pub loop-func-init : goal.loop-func-init
 loop-func-init c =
-    let funcs = c.args.functions.now in
-    let none = c.in_ok-numbers.ensures in (
-      omega arith,
-      refl,
-      ap (λ (ts : List (Vec Naming Global)). map (λ (t : Vec Naming Global). t.items) ts ++ map namings_of funcs) none.namings,
-      ap (λ l. l ++ entries_from 2 funcs) none.entries,
-      ap (λ l. l ++ owners_from 2 funcs) none.owners,
-    )
+    let none = c.in_ok-numbers.ensures in rw (none.namings, none.entries, none.owners) (omega arith, refl, refl, refl, refl)
 
 pub count_function-size-requires-clause-few : goal.count_function-size-requires-clause-few
 count_function-size-requires-clause-few c =

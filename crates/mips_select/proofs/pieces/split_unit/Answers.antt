@@ -16,18 +16,16 @@ returns-in_err-numbers-clause-limit c =
 pub of-requires : goal.of-requires
 of-requires c =
     let long = c.args.long.items in
-    let small : All (λ b. b < 2 ^ 8) c.args.globals.items = search rules in
-    let positive : 0 < 512 = omega arith in
     let count = length-split_from 512 (first_piece_of 512 long) 0 long in
     let few = rw c.as_slice.ensures.value at c.in_ok-numbers.ensures.few in
     let numbers = rw c.as_slice.ensures.value at c.in_ok-numbers.ensures.numbers in
     rw (c.in_ok-blocks.ensures, c.in_ok-owners.ensures, c.as_slice-3.ensures.value, c.as_slice-4.ensures.value, c.as_slice-2.ensures.value, numbers) (record {
       some = omega (arith, c.requires.some, total_above 512 long, count);
       few = omega (arith, few, count);
-      linked = pieces_linked 512 positive long c.requires.linked;
-      owners = pieces_owned 512 positive long c.args.owner.now c.requires.owners;
+      linked = pieces_linked 512 (omega arith) long c.requires.linked;
+      owners = pieces_owned 512 (omega arith) long c.args.owner.now c.requires.owners;
       data_fits = c.requires.few;
-      data_bytes = small;
+      data_bytes = search rules;
     })
 
 pub returns-clause-runs : goal.returns-clause-runs

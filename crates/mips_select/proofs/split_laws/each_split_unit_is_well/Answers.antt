@@ -6,11 +6,8 @@ use Rattle.mips_select.proofs.split_laws.each_split_unit_is_well.Goals as goal
 
 pub returns : goal.returns
 returns c = λ blocks owner linked owners. record {
-  short = λ i b there. (piece_of 512 some blocks i b there).1.short;
-  linked = pieces_linked 512 some blocks linked;
-  owners = pieces_owned 512 some blocks owner owners;
+  short = λ i b there. (piece_of 512 (omega arith) blocks i b there).1.short;
+  linked = pieces_linked 512 (omega arith) blocks linked;
+  owners = pieces_owned 512 (omega arith) blocks owner owners;
   some = omega (arith, total_above 512 blocks, length-split_from 512 (first_piece_of 512 blocks) 0 blocks);
 }
-  where
-    some : 0 < 512
-    some = omega arith
