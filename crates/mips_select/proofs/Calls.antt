@@ -73,8 +73,7 @@ module _ {most : ℕ} {f : Frame} (ok : IsFrame most f) where
 
   -- registers that no function saves
   saved_other : (q : ℕ) → (q < 16) ⊎ (24 ≤ q) → is_in f.saved.items q ≡ false
-  saved_other q out = false_from_ne_true (is_in f.saved.items q) (λ e. let at = in_at f.saved.items q e in
-      absurd (omega (arith, ok.saved at.0 q at.1, out)))
+  saved_other q out = grind (arith, in_at f.saved.items q, ok.saved)
 
   bytes_fit : (leaf : Bool) → frame_bytes leaf f ≤ most
   bytes_fit leaf = grind (arith, ok.fits)
@@ -217,7 +216,8 @@ module _ {most total : ℕ} {gs : List RGlobal} {starts : ℕ → ℕ} (small : 
         stands = record {
           words = run_words (map action_of (stack_step Restore size)) s1 to last.words (lift.runs).ends;
           mapped = h.mapped;
-          held = λ q w ql qh at. lift.others q (omega (arith, qh)) ∙ last.others q (link_apart leaf q (omega (arith, qh))) ∙ held back q w ql qh (is_in f.saved.items q) refl at;
+          held = λ q w ql qh at. lift.others q (omega (arith, qh)) ∙ last.others q (link_apart leaf q (omega (arith, qh)))
+              ∙ held back q w ql qh (is_in f.saved.items q) refl at;
           stack = rw pointer h.stack.1;
           room = omega (arith, pointer, h.room);
           aligned = omega (arith, pointer, h.aligned, size4);

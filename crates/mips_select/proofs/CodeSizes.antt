@@ -84,8 +84,7 @@ step_few direction n = grind arith
 parameters_few : (most : ℕ) (at : Locations) (t x n : ℕ) → ((y u : ℕ) → length (arrive (at y) u) ≤ most) → length (parameters_code at t x n) ≤ most * n
 parameters_few most at t x zero each = omega arith
 parameters_few most at t x (suc n) each =
-    let one : most * suc n ≡ most + most * n = omega arith in
-    omega (arith, length-append {A = Plain}, each x t, parameters_few most at (suc t) (suc x) n each, one)
+    omega (arith, length-append {A = Plain}, each x t, parameters_few most at (suc t) (suc x) n each)
 
 -- a leaf has no link, but it may have copies of its parameters; what it has more at its beginning it has less at a return
 abbrev pub prologue_most : Bool → ℕ

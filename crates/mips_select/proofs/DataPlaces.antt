@@ -41,9 +41,7 @@ element_length w v = grind arith
 
 elements_length : (w : Width) (vs : List ℕ) → length (elements_bytes w vs) ≡ width_bytes w * length vs
 elements_length w [] = omega arith
-elements_length w (v ∷ vs) =
-    let next : width_bytes w * length (v ∷ vs) ≡ width_bytes w + width_bytes w * length vs = omega arith in
-    omega (arith, element_length, elements_length w vs, length-append {A = ℕ}, next)
+elements_length w (v ∷ vs) = omega (arith, element_length, elements_length w vs, length-append {A = ℕ})
 
 pub global_length : (x : RGlobal) → length x.first.items ≡ x.length → length (global_bytes x) ≡ 4 * word_count x
 global_length x same =
@@ -147,8 +145,7 @@ have_values gs all a x there = (all_at IsGlobal gs a x all there).first
 pub data_length : (gs : List RGlobal) → HaveValues gs → length (padded_bytes gs) ≡ 4 * sum_by word_count gs
 data_length [] ok = refl
 data_length (x ∷ gs) ok =
-    let sum = length-append (global_bytes x) (padded_bytes gs) in
-    omega (arith, global_length x (ok 0 x refl), data_length gs (λ a. ok (suc a)), sum, sum_by-cons word_count x gs)
+    omega (arith, global_length x (ok 0 x refl), data_length gs (λ a. ok (suc a)), length-append {A = ℕ}, sum_by-cons word_count x gs)
 
 pub data_fits : (gs : List RGlobal) → HaveValues gs → sum_by word_count gs ≤ MAX_GLOBAL_WORDS → length (padded_bytes gs) ≤ UNIT_BYTES
 data_fits gs ok le = omega (arith, data_length gs ok, le)

@@ -69,9 +69,6 @@ module _ (fs : List (List BlockParts)) (are : AreFunctions (length (blocks_of fs
   same_owner : (i o : ℕ) (at : InFunction i) → slice_get owner i ≡ Some o → at.start ≡ o
   same_owner i o at here = same_Some at.start o (sym (owned_from (length at.code) at.owned i (omega (arith, at.is, at.within))) ∙ here)
 
-  goes_on_from : (i o : ℕ) → InFunction i → slice_get owner i ≡ Some o → Continues owner i o
-  goes_on_from i o at here = grind (arith, same_owner i o at here, owned_from (length at.code) at.owned)
-
   place : (i : ℕ) → i < length (blocks_of fs) → InFunction i
   place i lt = in_function 0 fs (omega arith) are (has_whole blocks) (has_whole owner) i i (omega arith) lt
 
@@ -82,7 +79,8 @@ module _ (fs : List (List BlockParts)) (are : AreFunctions (length (blocks_of fs
     },
     record {
       lengths = length-owners_of 0 fs;
-      continues = λ i o here. goes_on_from i o (place i (omega (arith, slice_get_within owner i o here, length-owners_of 0 fs))) here;
+      continues = λ i o here. let at = place i (omega (arith, slice_get_within owner i o here, length-owners_of 0 fs)) in
+          grind (arith, same_owner i o at here, owned_from (length at.code) at.owned);
       within = λ i o b there here. let at = place i (slice_get_within blocks i b there) in
           rw (← same_owner i o at here) (grind (arith, owned_from (length at.code) at.owned, exit_within i b at there));
     },

@@ -40,8 +40,7 @@ pub function_blocks_few : (p : Program) (functions : List RFunc) → IsProgram p
     → slice_get functions g ≡ Some func → length func.blocks.items ≤ MAX_BLOCKS
 function_blocks_few p functions ok is g func there =
     let at = rw is at there in
-    let most = get_or-le-sum_by block_count p.functions g func (slice_get_within p.functions g func at) in
-    omega (arith, most, ap block_count (get_or_from_slice_get p.functions g func func at), ok.blocks_fit)
+    grind (arith, get_or-le-sum_by block_count p.functions g func (slice_get_within p.functions g func at), get_or_from_slice_get p.functions g func func at)
 
 pub functions_emittable : (p : Program) (functions : List RFunc) (n : ℕ) → IsProgram p → functions ≡ p.functions → n ≡ length p.globals
     → AreFunctionsEmittable n functions

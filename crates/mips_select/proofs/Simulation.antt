@@ -1,5 +1,5 @@
 -- Each step over homes is one or more items of the unit.
-use Rattle.std.proofs.Common.{◌≡◌, ℕ, zero, suc, ◌+◌, ◌*◌, ◌≤◌, ◌==◌, ◌⊎◌, inl, inr, Bool, true, false, eqb-true, ◌&&◌, List, [], ◌∷◌, ◌++◌}
+use Rattle.std.proofs.Common.{◌≡◌, ◌≢◌, ℕ, zero, suc, ◌+◌, ◌*◌, ◌≤◌, ◌==◌, ◌⊎◌, inl, inr, Bool, true, false, eqb-true, ◌&&◌, List, [], ◌∷◌, ◌++◌}
 use Rattle.std.proofs.Common.{length, Option, Some, None, refl, sym, ap, ◌∙◌, subst, arith, nat_eq, nat_lt, true≢false, ltb-true, ◌<◌}
 use Rattle.std.proofs.Common.{eq-eqb, ⊎_elim}
 use Rattle.std.specs.Prelude.{if◌then◌else◌, not, slice_get}
@@ -99,13 +99,9 @@ module _ (links : ℕ → ℕ) (blocks : List BlockParts) (k f n : ℕ) (b : Blo
   found_from : (base : ℕ) (bs : List BlockParts) → HasAt blocks base bs → base ≤ k → k < base + length bs
       → return_block_of links (links k) base bs ≡ Some n
   found_from base [] has low high = absurd (omega (arith, low, high))
-  found_from base (x ∷ bs) has low high = ⊎_elim
-      (λ here. let same : Some b ≡ Some x = sym there ∙ ap (slice_get blocks) (sym here) ∙ has_head has in
-      cc (same_Some b x same, eq-eqb (links base) (links k) (ap links here)))
-      (λ other. let no_call = λ (call : is_call x.exit ≡ true) (same : (links base == links k) ≡ true).
-      other (tells.apart base k x b (has_head has) there call (ap is_call is) (eqb-true (links base) (links k) same)) in
-      rw (found_from (suc base) bs (has_tail has) (omega (arith, low, other)) (omega (arith, high))) (grind (arith, no_call)))
-      (cases_eq base k)
+  found_from base (x ∷ bs) has low high =
+      let rest = λ (other : base ≢ k). found_from (suc base) bs (has_tail has) (omega (arith, low, other)) (omega (arith, high)) in
+      grind (arith, nat_tests, cases_eq base k, has_head has, there, is, rest, tells.apart base k x b (has_head has) there)
 
   pub return_found : return_block_of links (links k) 0 blocks ≡ Some n
   return_found = found_from 0 blocks (has_whole blocks) (omega arith) (omega (arith, slice_get_within blocks k b there))
