@@ -3,7 +3,7 @@ use Rattle.std.proofs.Common.{◌≡◌, ◌≢◌, ℕ, pos, negsuc, ◌+◌, �
 use Rattle.std.proofs.Common.{◌++◌, map, length, Some, None, refl, sym, ap, ◌∙◌, arith, nat_eq, true≢false, eqb-true}
 use Rattle.std.proofs.Common.{ℤ}
 use Rattle.std.specs.Prelude.{if◌then◌else◌, slice_get}
-use Rattle.std.proofs.lemmas.Bool.{eqb-false, false_from_ne_true, cond_both}
+use Rattle.std.proofs.lemmas.Bool.{eqb-false, cond_both}
 use Rattle.std.proofs.lemmas.Option.{none-some, slice_get_within}
 use Rattle.std.proofs.lemmas.Bool.Decides.{nat_tests}
 use Rattle.words.specs.declared.operator.Operator.TheVariants.{Addu}

@@ -1,6 +1,6 @@
 -- Frames of chosen homes are within reach: copies are in registers of their own, and no frame is larger than its function says.
-use Rattle.std.proofs.Common.{◌≡◌, ◌↔◌, ℕ, zero, suc, ◌<◌, ◌≤◌, false, List, [], ◌∷◌, Some, refl, sym, ap, ◌∙◌, arith, true≢false, ◌-◌, ◌⊎◌}
-use Rattle.std.proofs.Common.{inl, inr, true, length, nat_eq}
+use Rattle.std.proofs.Common.{◌≡◌, ◌↔◌, ℕ, zero, suc, ◌<◌, ◌≤◌, false, List, [], ◌∷◌, Some, refl, sym, ap, ◌∙◌, arith, true≢false, ◌-◌}
+use Rattle.std.proofs.Common.{true, length, nat_eq}
 use Rattle.std.specs.Prelude.{slice_get, if◌then◌else◌, slice_index}
 use Rattle.std.proofs.lemmas.Option.{same_Some, none-some, slice_get_within, slice_get-get_or}
 use Rattle.std.proofs.lemmas.Bool.{cond_both}
@@ -11,9 +11,9 @@ use Rattle.mips_homes.specs.Homes.{cell}
 use Rattle.mips_homes.specs.Convention.{temporaries}
 use Rattle.mips_homes.specs.Copies.{lives_in, is_leaf, unused, copied_onto, copied, is_slot}
 use Rattle.mips_homes.proofs.Copying.{onto_get}
-use Rattle.mips_homes.proofs.Located.{IsTemporary, unused_temporary, lives, GetsTemporaryIn, uncopied, is_plain, within, case_of}
+use Rattle.mips_homes.proofs.Located.{IsTemporary, unused_temporary, lives, uncopied, is_plain, within, case_of}
 use Rattle.mips_homes.proofs.Located.{places_long_as, placed_apart, still_was, still_few, has_slot}
-use Rattle.mips_emit.specs.Frames.{AreCopies, HaveNoCopies, IsHome, IsFrame}
+use Rattle.mips_emit.specs.Frames.{AreCopies, HaveNoCopies, IsFrame}
 use Rattle.std.proofs.lemmas.Bool.Decides.{nat_tests}
 use Rattle.rtl.specs.declared.block.RFunc.{RFunc}
 use Rattle.rtl.specs.Names.{how_many}

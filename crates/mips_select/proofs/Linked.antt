@@ -4,11 +4,9 @@ use Rattle.std.proofs.Common.{refl, sym, ap, subst, arith}
 use Rattle.std.specs.Prelude.{All, slice_get, slice_index}
 use Rattle.std.proofs.lemmas.List.Elements.{All-append, All-cons, All-head, All-nil, All-tail}
 use Rattle.std.proofs.lemmas.Option.{slice_get_within}
-use Rattle.std.proofs.lemmas.Bool.{cond_both}
 use Rattle.mblock.specs.Parts.{BlockParts}
 use Rattle.mblock.specs.Units.{AreLinked, AreOwners}
 use Rattle.rtl.specs.declared.instruction.RExit.{RExit}
-use Rattle.rtl.specs.declared.instruction.RExit.TheVariants.{Call}
 use Rattle.rtl.specs.declared.block.RBlock.{RBlock}
 use Rattle.rtl.specs.declared.block.RFunc.{RFunc}
 use Rattle.rtl.specs.Programs.{IsExit, IsBlock, IsFunction, IsProgram}
@@ -20,10 +18,9 @@ use Rattle.mips_emit.specs.Comparisons.{last_after, no_last}
 use Rattle.mips_select.specs.Functions.{blocks_of, owners_of, IsFrom, GoesWithin, IsFunctionAt, AreFunctions}
 use Rattle.mips_select.proofs.Owned.{functions_owned}
 use Rattle.mips_select.specs.declared.heads.Head.{Head}
-use Rattle.mips_select.specs.declared.heads.Head.TheVariants.{Enters}
-use Rattle.mips_select.specs.Heads.{heads_of, resumes, count, lead_of, lead_in}
+use Rattle.mips_select.specs.Heads.{heads_of, count, lead_of, lead_in}
 use Rattle.mips_select.specs.Plans.{Linking, Planning}
-use Rattle.mips_select.specs.Code.{asked_of, exit_of, after_block, start_block, end_block}
+use Rattle.mips_select.specs.Code.{asked_of, exit_of, start_block, end_block}
 use Rattle.mips_select.proofs.Lists.{all_at}
 use Rattle.mips_select.specs.Whole.{size_of_blocks, numbers, next_of, behind, blocks_from, place_in, lead_blocks, planning_in, function_blocks, size_in}
 use Rattle.mips_select.specs.Whole.{function_size, functions_size, entries_from, entry_of, owners_from, owners_for, functions_blocks, linking_for, program_blocks}

@@ -5,7 +5,7 @@ use Rattle.std.specs.Prelude.{slice_get, replicate}
 use Rattle.std.proofs.lemmas.List.{length-replicate}
 use Rattle.std.proofs.lemmas.Option.{same_Some, slice_get_within}
 use Rattle.mblock.specs.Parts.{BlockParts}
-use Rattle.mblock.specs.Units.{Continues, AreLinked, AreOwners}
+use Rattle.mblock.specs.Units.{AreLinked, AreOwners}
 use Rattle.mips_select.specs.Functions.{blocks_of, owners_of, IsFrom, GoesWithin, IsFunctionAt, AreFunctions}
 use Rattle.mips_select.proofs.Places.{HasAt, has_whole, has_front, has_back, has_get, apart_from}
 use Rattle.mips_select.proofs.Well.{get_replicate}

@@ -1,6 +1,6 @@
 -- The blocks for a program stand for it.
-use Rattle.std.proofs.Common.{◌≡◌, ℕ, zero, suc, ◌+◌, ◌<◌, ◌≤◌, ◌⊎◌, inl, inr, Bool, false, List, [], ◌∷◌, ◌++◌, length, ⊎_elim, Some, refl}
-use Rattle.std.proofs.Common.{sym, ap, ◌∙◌, arith, Option, None, subst}
+use Rattle.std.proofs.Common.{◌≡◌, ℕ, zero, suc, ◌+◌, ◌<◌, ◌≤◌, ◌⊎◌, Bool, false, List, [], ◌∷◌, ◌++◌, length, ⊎_elim, Some, refl}
+use Rattle.std.proofs.Common.{ap, ◌∙◌, arith, Option, None, subst}
 use Rattle.std.specs.Prelude.{All, slice_get, slice_index, slice_set}
 use Rattle.std.proofs.lemmas.Option.{same_Some, none-some, slice_get_within}
 use Rattle.std.proofs.lemmas.Bool.Decides.{nat_tests}
@@ -23,7 +23,7 @@ use Rattle.mips_select.proofs.Places.{HasAt, has_whole, has_head, has_tail, has_
 use Rattle.mips_select.specs.declared.heads.Head.{Head}
 use Rattle.mips_select.specs.declared.heads.Head.TheVariants.{Bare, Enters, Takes}
 use Rattle.mips_select.specs.Limits.{largest_frame, FramesFit}
-use Rattle.mips_select.specs.Heads.{calls_none, is_leaf, unnamed, heads_of, count, lead_of, lead_in, naming_with_call, note, namings}
+use Rattle.mips_select.specs.Heads.{calls_none, is_leaf, unnamed, heads_of, count, lead_in, naming_with_call, note, namings}
 use Rattle.mips_select.specs.Heads.{heads_in}
 use Rattle.mips_select.specs.Plans.{Linking, Planning}
 use Rattle.mips_select.specs.Code.{prologue, head_code, own_block, prologue_block}

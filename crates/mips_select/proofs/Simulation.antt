@@ -1,7 +1,6 @@
 -- Each step over homes is one or more items of the unit.
 use Rattle.std.proofs.Common.{◌≡◌, ◌≢◌, ℕ, zero, suc, ◌+◌, ◌*◌, ◌≤◌, ◌==◌, ◌⊎◌, inl, inr, Bool, true, false, eqb-true, ◌&&◌, List, [], ◌∷◌, ◌++◌}
 use Rattle.std.proofs.Common.{length, Option, Some, None, refl, sym, ap, ◌∙◌, subst, arith, nat_eq, nat_lt, true≢false, ltb-true, ◌<◌}
-use Rattle.std.proofs.Common.{eq-eqb, ⊎_elim}
 use Rattle.std.specs.Prelude.{if◌then◌else◌, not, slice_get}
 use Rattle.std.proofs.lemmas.List.{append-nil, append_assoc}
 use Rattle.std.proofs.lemmas.Option.{same_Some, none-some, slice_get_within}
@@ -15,7 +14,7 @@ use Rattle.mblock.specs.declared.exit.Exit.{Exit}
 use Rattle.mblock.specs.declared.exit.Exit.TheVariants as E
 use Rattle.mblock.specs.Parts.{BlockParts}
 use Rattle.mblock.specs.BlockMeaning.{exit_effect}
-use Rattle.mblock.specs.UnitRuns.{items, outcome_of_departure, return_block_of, TellsApart, outcome_at_block, is_call}
+use Rattle.mblock.specs.UnitRuns.{items, outcome_of_departure, return_block_of, TellsApart, outcome_at_block}
 use Rattle.rtl.specs.declared.instruction.RInst.{RInst}
 use Rattle.rtl.specs.declared.instruction.RExit.{RExit}
 use Rattle.rtl.specs.declared.instruction.RExit.TheVariants.{Goto, Branch, Call, Return, Out}
@@ -38,7 +37,7 @@ use Rattle.mips_emit.specs.Code.{inst_code}
 use Rattle.mips_emit.specs.Comparisons.{comparison_code, comparison_of, asked_last, next_code, last_with, no_last, last_after, tested}
 use Rattle.mips_emit.specs.Comparisons.{branch_code, branch_exit, is_result, returned, return_code, exit_by_form}
 use Rattle.mips_emit.specs.Frames.{IsFrame}
-use Rattle.mips_emit.proofs.Runs.{RunsTo, if_some, runs_none, runs_then, Point, At, Stopped, from, Leads, leads_then, leads_run, leads_exit}
+use Rattle.mips_emit.proofs.Runs.{RunsTo, runs_none, runs_then, Point, At, Stopped, from, Leads, leads_then, leads_run, leads_exit}
 use Rattle.mips_emit.proofs.View.{word_at, set, set_words, put_here, put_other, moves}
 use Rattle.mips_emit.proofs.Stands.{Stored, stack_room, Stands}
 use Rattle.mips_emit.proofs.Operands.{passes, Denotes, hide, AreDeferred, none_deferred, AreBases, no_bases, IsLast, none_last, frame_homes}

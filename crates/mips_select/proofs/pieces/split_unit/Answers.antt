@@ -1,5 +1,4 @@
-use Rattle.std.specs.Prelude.{All, ◌^◌}
-use Rattle.std.proofs.Common.{rules, ◌<◌, arith}
+use Rattle.std.proofs.Common.{rules, arith}
 use Rattle.std.proofs.lemmas.Result.{err_from_is_err_and}
 use Rattle.mips_select.specs.Split.{first_piece_of}
 use Rattle.mips_select.proofs.Places.{length-split_from, total_above}

@@ -1,4 +1,4 @@
-use Rattle.std.proofs.Common.{◌<◌, arith}
+use Rattle.std.proofs.Common.{arith}
 use Rattle.mips_select.specs.Split.{first_piece_of}
 use Rattle.mips_select.proofs.Places.{total_above, length-split_from}
 use Rattle.mips_select.proofs.Well.{piece_of, pieces_linked, pieces_owned}
