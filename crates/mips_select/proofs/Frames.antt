@@ -148,10 +148,6 @@ still_denote count s {t} {f} hs facts t' (x ∷ xs) (w ∷ ws) lt few order same
 )
 still_denote count s hs facts t' _ _ lt few order same d = d
 
--- a parameter's location isn't the register of a later one
-elsewhere : (l : Option Home) (t q : ℕ) → t < q → q < 8 → IsClear l t → IsElsewhere l q
-elsewhere l t q lt few clear = grind arith
-
 module _ {most total : ℕ} {gs : List RGlobal} {starts : ℕ → ℕ} {g : Arrays} {fs : List Stored} where
   module _ {registers : Places} {top : Stored} (facts : Facts) where
     pub all_denote : {s : State} → Stands most total gs starts (hide facts.deferred registers) g (top ∷ fs) s → AreFrameHomes top.homes top.count
@@ -214,6 +210,6 @@ module _ {most total : ℕ} {gs : List RGlobal} {starts : ℕ → ℕ} {g : Arra
         (λ r1 slots1 s1 e1 h1 same.
         parameters h1 ok vs (suc t) (suc x) go (omega (arith, low)) (omega (arith, high)) clear.1
         (λ j w there. (let next : suc t + j ≡ t + suc j = omega arith in let within = slice_get_within vs j w there in
-        same.others (suc t + j) (omega (arith, low)) (elsewhere (slice_get top.homes x) t (suc t + j) (omega arith) (omega (arith, high, within)) clear.0)
+        same.others (suc t + j) (omega (arith, low)) (grind (arith, high, within, clear.0))
         ∙ rw next (here (suc j) w there)))
         (λ r2 slots2 s2 e2 h2. f r2 slots2 s2 (runs_then e1 e2) h2))

@@ -195,9 +195,6 @@ first_place : (k : ℕ) (bs : List RBlock) → heads_of bs 0 ≡ Enters → slic
 first_place k [] e = let no : Bare ≡ Enters = e in cc
 first_place k (b ∷ bs) e = grind arith
 
-no_take : (bs : List RBlock) (d : ℕ) → heads_of bs 0 ≡ Takes d → ⊥
-no_take bs d e = grind arith
-
 pub program_selected : (h : Homed) (depth : ℕ) → IsProgram h.rtl.now → ArePlaced h → FramesFit h.rtl.now depth → IsSelected h depth (program_blocks h)
 program_selected h depth ok choices fit = record {
   entry = entry_of (h.rtl.now).functions;
@@ -231,7 +228,7 @@ program_selected h depth ok choices fit = record {
         leaf = is_leaf bs;
         place = place_in k bs;
         head = heads_code p;
-        first = begins whole l p k (blocks_from l p first 0 bs) (heads 0) refl has (first_place k bs) (no_take bs);
+        first = begins whole l p k (blocks_from l p first 0 bs) (heads 0) refl has (first_place k bs) (λ d e. grind arith);
         placed = record { by = λ b block there. placed whole l p first 0 bs has' allows b b block there refl (omega arith) };
         frame = frame;
         parameters = is.parameters;
