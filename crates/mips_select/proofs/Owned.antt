@@ -59,8 +59,7 @@ module _ (fs : List (List BlockParts)) (are : AreFunctions (length (blocks_of fs
 
   owned_from : (n : ℕ) {start : ℕ} → HasAt owner start (replicate n start) → (t : ℕ) → IsFrom start n t → slice_get owner t ≡ Some start
   owned_from n {start} owned t at =
-      let here : t ≡ start + (t - start) = omega (arith, at) in
-      ap (slice_get owner) here ∙ owned.by (t - start) start (get_replicate n start (t - start) (omega (arith, at)))
+      grind (arith, owned.by (t - start) start (get_replicate n start (t - start) (omega (arith, at))))
 
   -- the exit of a block keeps to its function
   exit_within : (i : ℕ) (b : BlockParts) (at : InFunction i) → slice_get blocks i ≡ Some b → GoesWithin bound at.start (length at.code) b.exit

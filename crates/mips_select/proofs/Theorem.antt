@@ -69,11 +69,9 @@ module _ (l : List ℕ) (few : length l ≤ UNIT_BYTES) where
       let here : slice_get l p ≡ Some (byte_of v 0) = grind (arith, there 0 (byte_of v 0) refl) in
       let ok = open_data Word (length l) p (element_aligned Word start i even) (slice_get_within l p (byte_of v 0) here) in
       let b0 : s.memory a ≡ byte_of v 0 = data_byte l p (byte_of v 0) few here in
-      let b = λ (k : ℕ) (e : slice_get (element_bytes Word v) k ≡ Some (byte_of v k)). next k (byte_of v k) (there k (byte_of v k) e) in
+      let b : (k : ℕ) → slice_get (element_bytes Word v) k ≡ Some (byte_of v k) → s.memory (a + k) ≡ byte_of v k =
+      λ k e. grind (arith, data_byte l (p + k) (byte_of v k) few (there k (byte_of v k) e)) in
       rw (ok, b0, b 1 refl, b 2 refl, b 3 refl) (omega arith)
-    where
-      next : (k b : ℕ) → slice_get l (element_place Word start i + k) ≡ Some b → (start_state l).memory (data_base + element_place Word start i + k) ≡ b
-      next k b at = grind (arith, data_byte l (element_place Word start i + k) b few at)
 
 -- the state at the start holds the globals
 module _ (globals : List RGlobal) (ok : HaveValues globals) (few : length (padded_bytes globals) ≤ UNIT_BYTES) (most : ℕ) where
