@@ -199,9 +199,7 @@ starts_same xs ys k n low e long =
     let memory : first_bytes ys ≡ first_bytes xs = fun_ext (λ a.
     ap (λ b. if nat_le stack_base a then 0 else (if nat_le data_base a then b else 0))
     (ap (λ l. slice_index l (a - data_base)) e ∙ none_beyond xs k (a - data_base))) in
-    let at : (ℕ → ℕ) → (ℕ → Bool) → State =
-    λ memory mapped. record { regs = put (λ r. 0) 29 stack_end; hi = 0; lo = 0; memory = memory; mapped = mapped } in
-    ap₂ at memory (ap words_mapped words)
+    cc (memory, words)
 
 pub data_starts_same : (gs : List RGlobal) → HaveValues gs → start_state (padded_bytes gs) ≡ start_state (data_bytes gs)
 data_starts_same gs ok =

@@ -116,7 +116,7 @@ pub first_next : (most k : ℕ) (bs : List BlockParts) (n : ℕ) (a b : BlockPar
     → slice_index (firsts most k bs) (suc n) ≡ suc (slice_index (firsts most k bs) n + more_pieces most a)
 first_next most k [] n a b a_there b_there = absurd (none-some a a_there)
 first_next most k (x ∷ []) zero a b a_there b_there = absurd (none-some b b_there)
-first_next most k (x ∷ y ∷ bs) zero a b a_there b_there = omega (arith, ap (λ (b : BlockParts). more_pieces most b) (same_Some x a a_there))
+first_next most k (x ∷ y ∷ bs) zero a b a_there b_there = grind arith
 first_next most k (x ∷ bs) (suc n) a b a_there b_there = first_next most (k + count_of most x) bs n a b a_there b_there
 
 -- a piece is short. The last one has the block's exit, each other one goes to the next
