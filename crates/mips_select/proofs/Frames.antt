@@ -142,8 +142,7 @@ still_denote : (count : ℕ) (s : State) {t : ℕ} {f : ℕ → ℕ} (hs : List 
     → AreInOrder (slice_get hs) t' xs → ((q : ℕ) → q ≢ t → f q ≡ s.regs q) → AllDenote count s hs facts xs vs
     → AllDenote count (record s { regs = f }) hs facts xs vs
 still_denote count s {t} {f} hs facts t' (x ∷ xs) (w ∷ ws) lt few order same d = (
-  denotes_kept count t w (operand (slice_get hs) facts x) s f (λ e. absurd (omega (arith, few, e)))
-      (grind (arith, nat_tests)) same d.0,
+  denotes_kept count t w (operand (slice_get hs) facts x) s f (omega arith) (grind (arith, nat_tests)) same d.0,
   still_denote count s hs facts (suc t') xs ws (omega (arith, lt)) few order.1 same d.1,
 )
 still_denote count s hs facts t' _ _ lt few order same d = d

@@ -5,13 +5,8 @@ use Rattle.std.proofs.lemmas.Option.{slice_get-get_or}
 use Rattle.mips_select.proofs.Lists.{made_more, all_made}
 use Rattle.mips_select.proofs.prologue.emit_words.Goals as goal
 
-pub register-requires-clause-nonzero : goal.register-requires-clause-nonzero
-register-requires-clause-nonzero c =
-    omega (arith, c.requires.registers _ _ (slice_get-get_or c.args.registers.now c.loop-r.r-index 0 c.loop-r-test.true))
-
-pub register-requires-clause-range : goal.register-requires-clause-range
-register-requires-clause-range c =
-    omega (arith, c.requires.registers _ _ (slice_get-get_or c.args.registers.now c.loop-r.r-index 0 c.loop-r-test.true))
+pub register-requires : goal.register-requires
+register-requires c = omega (arith, c.requires.registers _ _ (slice_get-get_or c.args.registers.now c.loop-r.r-index 0 c.loop-r-test.true))
 
 pub loop-r-preserved : goal.loop-r-preserved
 loop-r-preserved c =
