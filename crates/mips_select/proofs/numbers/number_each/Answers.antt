@@ -8,18 +8,16 @@ use Rattle.mips_select.proofs.numbers.number_each.Goals as goal
 pub bounds-namings-i : goal.bounds-namings-i
 bounds-namings-i c = omega (arith, named_long _ _ c.requires.named, c.loop-i-test.true)
 
-pub push_numbers-requires-clause-few : goal.push_numbers-requires-clause-few
-push_numbers-requires-clause-few c = c.requires.few c.loop-i.i c.index-functions-i.result
-    (slice_get_read _ _ c.loop-i.i _ refl c.loop-i-test.true c.index-functions-i.is)
-
-pub push_numbers-requires-clause-named : goal.push_numbers-requires-clause-named
-push_numbers-requires-clause-named c = c.as_slice-table.ensures.value
-    ∙ named_here _ _ c.loop-i.i _ _ c.requires.named c.loop-i-test.true c.index-functions-i.is c.index-namings-i.is
-
-pub push_numbers-requires-clause-number : goal.push_numbers-requires-clause-number
-push_numbers-requires-clause-number c =
-    let sizes = drop_item functions_size c.args.functions.now c.loop-i.i c.loop-i-test.true c.index-functions-i.is in
-    omega (arith, sizes, c.loop-i.invariant.0, c.requires.number)
+pub push_numbers-requires : goal.push_numbers-requires
+push_numbers-requires c =
+    let i = c.loop-i.i in
+    let lt = c.loop-i-test.true in
+    let sizes = drop_item functions_size c.args.functions.now i lt c.index-functions-i.is in
+    record {
+      few = c.requires.few i c.index-functions-i.result (slice_get_read _ _ i _ refl lt c.index-functions-i.is);
+      named = c.as_slice-table.ensures.value ∙ named_here _ _ i _ _ c.requires.named lt c.index-functions-i.is c.index-namings-i.is;
+      number = omega (arith, sizes, c.loop-i.invariant.0, c.requires.number);
+    }
 
 pub loop-i-preserved : goal.loop-i-preserved
 loop-i-preserved c =
