@@ -6,7 +6,6 @@ mod Blocks
 mod DataPlaces
 mod Linked
 mod Frames
-mod Calls
 mod Simulation
 mod Theorem
 mod Lists

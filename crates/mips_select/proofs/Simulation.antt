@@ -50,8 +50,7 @@ use Rattle.mips_select.specs.Data.{padded_bytes, start_of}
 use Rattle.mips_select.specs.Plans.{Linking, Placing, placing_of}
 use Rattle.mips_select.specs.Code.{epilogue, asked_of, exit_code, exit_of, code_insts, context_in, own_block, result_code, after_block}
 use Rattle.mips_select.specs.Selected.{GoesOn, StandsAt, IsPlaced, IsFunction, IsSelected}
-use Rattle.mips_select.proofs.Frames.{all_denote, arguments, parameters}
-use Rattle.mips_select.proofs.Calls.{stored_frame, frames_of, linked_frames, enters, leaves_frame}
+use Rattle.mips_select.proofs.Frames.{all_denote, arguments, parameters, stored_frame, frames_of, linked_frames, enters, leaves_frame}
 use Rattle.mips_emit.specs.declared.comparison.Form.{Form}
 use Rattle.std.proofs.lemmas.Bool.Decides.{nat_tests}
 use Rattle.mips_select.proofs.Places.{HasAt, has_whole, has_head, has_tail}
