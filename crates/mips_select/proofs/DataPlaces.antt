@@ -1,6 +1,6 @@
 -- Where the bytes of globals stand.
-use Rattle.std.proofs.Common.{◌≡◌, ◌⊎◌, inl, inr, ℕ, zero, suc, ◌+◌, ◌-◌, ◌*◌, ◌/◌, ◌%◌, ◌^◌, ◌<◌, ◌≤◌, Bool, List, [], ◌∷◌, ◌++◌, map, length, take}
-use Rattle.std.proofs.Common.{drop, length-append, append-nil, Some, refl, sym, ap, ap₂, ◌∙◌, arith}
+use Rattle.std.proofs.Common.{◌≡◌, ◌⊎◌, inl, inr, ℕ, zero, suc, ◌+◌, ◌-◌, ◌*◌, ◌/◌, ◌%◌, ◌^◌, ◌<◌, ◌≤◌, List, [], ◌∷◌, ◌++◌, map, length, take}
+use Rattle.std.proofs.Common.{drop, length-append, append-nil, Some, refl, sym, ap, ◌∙◌, arith}
 use Rattle.std.specs.Prelude.{All, nat_le, if◌then◌else◌, slice_get, slice_index, sum_by}
 use Rattle.std.proofs.lemmas.List.{append_assoc, take-append-drop, length-drop, length-map, length-replicate}
 use Rattle.std.proofs.lemmas.List.Elements.{All-append, All-from_recursion, All-map, All-nil, All-replicate}
@@ -16,8 +16,7 @@ use Rattle.rtl.specs.declared.block.RGlobal.{RGlobal}
 use Rattle.rtl.specs.declared.limits.TheConstants.{MAX_GLOBAL_WORDS}
 use Rattle.rtl.specs.Programs.{IsGlobal, word_count}
 use Rattle.rtl.specs.Meaning.{first_values}
-use Rattle.mips_isa.specs.States.{State, put}
-use Rattle.mips_isa.specs.Starting.{data_base, stack_base, stack_end, first_bytes, words_mapped, start_state}
+use Rattle.mips_isa.specs.Starting.{data_base, stack_base, first_bytes, start_state}
 use Rattle.mips_emit.specs.Elements.{width_bytes, width_of, element_place, place_in, place_behind}
 use Rattle.mips_select.specs.Emittable.{AreInside}
 use Rattle.mips_select.proofs.Lists.{all_at, get_behind, get_before}

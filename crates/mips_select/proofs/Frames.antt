@@ -1,5 +1,5 @@
 -- Registers are saved in a frame and come back; arguments and parameters; what a prologue and an epilogue do.
-use Rattle.std.proofs.Common.{◌≡◌, ◌≢◌, ℕ, zero, suc, ◌+◌, ◌*◌, ◌%◌, ◌^◌, ◌<◌, ◌≤◌, Bool, true, false, List, [], ◌∷◌, length, Option, Some}
+use Rattle.std.proofs.Common.{◌≡◌, ◌≢◌, ℕ, zero, suc, ◌+◌, ◌*◌, ◌%◌, ◌^◌, ◌<◌, ◌≤◌, Bool, true, false, List, [], ◌∷◌, length, Some}
 use Rattle.std.proofs.Common.{refl, sym, ap, ◌∙◌, arith, nat_eq, true≢false, pos, negsuc, ◌-◌, ◌⊎◌, inl, inr, ◌++◌, map, None, eqb-true, ℤ}
 use Rattle.std.specs.Prelude.{slice_get, ◌||◌, if◌then◌else◌}
 use Rattle.std.proofs.lemmas.Bool.{eqb-false, or_parts, cond_both}
@@ -22,12 +22,12 @@ use Rattle.mips_emit.proofs.Runs.{RunsTo, runs_none, runs_then}
 use Rattle.mips_emit.proofs.View.{shown_at, word_at, set, set_word, shown_other, word_here, set_words, set_at_words, word_below, put_here}
 use Rattle.mips_emit.proofs.View.{put_other, read_register, loads_word, stores_word, sum_value, word_of_offset}
 use Rattle.mips_emit.proofs.Stands.{Stored, with_slots, Stands, open_stack, stack_same, stack_top, Linked}
-use Rattle.mips_emit.proofs.Operands.{hide, AreDeferred, IsKnown, Denotes, denotes_kept, IsElsewhere, stack_apart}
+use Rattle.mips_emit.proofs.Operands.{hide, AreDeferred, IsKnown, Denotes, denotes_kept, stack_apart}
 use Rattle.runs.proofs.Words.{chain-some}
 use Rattle.mips_emit.proofs.Homes.{operand_means, caller_saved_kept, carries, arrives}
 use Rattle.mips_select.specs.declared.prologue.Direction.TheVariants.{Save, Restore}
 use Rattle.mips_select.specs.Code.{frame_words, parameters_code, frame_bytes, frame_link, link_offset, stack_step, epilogue}
-use Rattle.mips_select.specs.Selected.{AreInOrder, IsClear, AreClear}
+use Rattle.mips_select.specs.Selected.{AreInOrder, AreClear}
 use Rattle.words.specs.declared.operator.Operator.TheVariants.{Addu}
 use Rattle.words.specs.Words.{wrap}
 use Rattle.words.specs.Operators.{op_value}
