@@ -1,5 +1,6 @@
 -- Blocks, their code and their pieces that are being made.
-use Rattle.std.proofs.Common.{◌≡◌, ℕ, ◌+◌, ◌<◌, List, [], ◌∷◌, ◌++◌, drop, get_or, length, length-append, sym, ap, ◌∙◌, arith, zero, suc, ◌-◌, ◌/◌, take}
+use Rattle.std.proofs.Common.{◌≡◌, ℕ, ◌+◌, ◌<◌, List, [], ◌∷◌, ◌++◌, drop, get_or, length, length-append, sym, ap, ◌∙◌, arith, zero, suc, ◌-◌}
+use Rattle.std.proofs.Common.{◌/◌, take}
 use Rattle.std.proofs.lemmas.List.{append_assoc, at_drop_more, length-map, get_or-map, append-nil}
 use Rattle.std.specs.declared.alloc.Global.{Global}
 use Rattle.std.specs.declared.vec.Vec.{Vec}

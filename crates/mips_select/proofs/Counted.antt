@@ -20,7 +20,8 @@ use Rattle.mips_select.specs.Emittable.{HasFewArguments}
 use Rattle.mips_select.specs.Heads.{head_at, heads_of, is_leaf, namings, unnamed, count, lead_in}
 use Rattle.mips_select.specs.Laws.{EachUnitIsCounted, EachUnitIsCountedByExits}
 use Rattle.mips_select.specs.Limits.{insts_in, exit_blocks, exits_blocks, most_blocks_for, most_by_exits_for}
-use Rattle.mips_select.specs.Whole.{behind, blocks_from, blocks_in, lead_blocks, planning_in, function_size, functions_blocks, linking_for, program_blocks}
+use Rattle.mips_select.specs.Whole.{behind, blocks_from, blocks_in, lead_blocks, planning_in, function_size, functions_blocks, linking_for}
+use Rattle.mips_select.specs.Whole.{program_blocks}
 use Rattle.mips_select.proofs.CodeSizes.{insts_few, prologue_most, prologue_few, exit_most, exit_few, behind_most, result_few}
 use Rattle.mips_select.proofs.FrameSizes.{placed_eight, placed_alone}
 use Rattle.mips_select.proofs.Lists.{all_at}
@@ -103,8 +104,8 @@ function_few l n k (b ∷ bs) f is =
     let p = planning_in n k all f in
     let lead = lead_few l p is.eight is.four is.alone (slice_get (namings all (unnamed all)) 0) in
     let fits = (most l p is.eight is.four is.alone (is_leaf all)).1 in
-    let rest = rest_few l p is.eight is.four is.alone (λ j. grind (arith, nat_tests, result_few (locations p.frame))) (k + lead_in heads + count heads b.exit) 0 bs
-    (λ i c e. is.few (suc i) c e) in
+    let rest = rest_few l p is.eight is.four is.alone (λ j. grind (arith, nat_tests, result_few (locations p.frame)))
+    (k + lead_in heads + count heads b.exit) 0 bs (λ i c e. is.few (suc i) c e) in
     let first = one_few l p is.eight is.four is.alone (k + lead_in heads) 0 b bs (is.few 0 b refl) rest in
     omega (arith, lead, fits, first, length-append {A = BlockParts}, all_append)
 

@@ -23,7 +23,8 @@ use Rattle.mips_select.specs.Plans.{Linking, Planning}
 use Rattle.mips_select.specs.Code.{asked_of, exit_of, start_block, end_block}
 use Rattle.mips_select.proofs.Lists.{all_at}
 use Rattle.mips_select.specs.Whole.{size_of_blocks, numbers, next_of, behind, blocks_from, place_in, lead_blocks, planning_in, function_blocks, size_in}
-use Rattle.mips_select.specs.Whole.{function_size, functions_size, entries_from, entry_of, owners_from, owners_for, functions_blocks, linking_for, program_blocks}
+use Rattle.mips_select.specs.Whole.{function_size, functions_size, entries_from, entry_of, owners_from, owners_for, functions_blocks}
+use Rattle.mips_select.specs.Whole.{linking_for, program_blocks}
 
 pub behind_length : (p : Planning) (x : RExit) → suc (length (behind p x)) ≡ count p.heads x
 behind_length p x = grind arith

@@ -63,7 +63,8 @@ functions_emittable p functions n ok is n_is = rw (is, n_is) (record {
 pub many_pieces : (h : Homed) → ArePlaced h → 2 + functions_size (h.rtl.now).functions ≤ length (unit_for h).blocks
 many_pieces h ok =
     let pieces = length-split_from BLOCK_INSTS (first_piece_of BLOCK_INSTS (program_blocks h)) 0 (program_blocks h) in
-    omega (arith, (functions_joined (linking_for h.rtl.now) 2 (h.rtl.now).functions h.frames.items ok.long).2, total_above BLOCK_INSTS (program_blocks h), pieces)
+    let joined = functions_joined (linking_for h.rtl.now) 2 (h.rtl.now).functions h.frames.items ok.long in
+    omega (arith, joined.2, total_above BLOCK_INSTS (program_blocks h), pieces)
 
 -- a pass behind the homes that tells of a limit
 pub told_beyond : {T : Type 0} {h : Homed} {p : Program} {fault : SelectFault} (depth : ℕ) (r : Result T SelectFault) → IsErrAnd r (λ e. e ≡ fault)
