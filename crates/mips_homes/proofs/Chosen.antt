@@ -8,13 +8,13 @@ use Rattle.std.proofs.lemmas.Option.{slice_get_within, same_Some}
 use Rattle.rtl.proofs.Names.{bound_one, bound_least}
 use Rattle.rtl.specs.Names.{bound, blocks_names, how_many, uses_of}
 use Rattle.mips_homes.specs.Convention.{IsCalleeSaved}
-use Rattle.mips_homes.specs.HomedRun.{is_in, is_callee_saved, homed_run}
-use Rattle.mips_homes.specs.Homes.{HasHome, HaveHomes, Serves, cell}
+use Rattle.mips_homes.specs.HomedRun.{is_in, homed_run}
+use Rattle.mips_homes.specs.Homes.{HasHome, HaveHomes, Serves, AreAllHomes, cell}
 use Rattle.mips_homes.specs.Laws.{KeepsRtlRuns}
 use Rattle.mips_homes.specs.Choice.{count_below, rank, is_register_home, IsChoice, HaveFrames, AreChoices}
 use Rattle.mips_homes.specs.Best.{IsBest, IsHome, AreHomesOf, AreFirst}
 use Rattle.mips_homes.proofs.Choosing.{count_none, count_all, count_more, at_index, is_in_at, in_best}
-use Rattle.mips_homes.proofs.Lockstep.{each_homed_run}
+use Rattle.mips_homes.proofs.Lockstep.{AreCalleeSaved, each_homed_run}
 use Rattle.mips_homes.specs.declared.homed.Home.{Home}
 use Rattle.mips_homes.specs.declared.homed.Home.TheVariants.{Reg, Slot, Copied}
 use Rattle.mips_homes.specs.declared.homed.Frame.{Frame}
@@ -155,8 +155,10 @@ names_have homes func long = named_below homes func.parameters (blocks_names fun
 pub parameters_have : (homes : List Home) (func : RFunc) → length homes ≡ how_many func → (x : ℕ) → x < func.parameters → HasHome homes x
 parameters_have homes func long x lt = home_at homes x (omega (arith, lt, long, bound_least func.parameters (blocks_names func.blocks.items)))
 
-pub home_callee_saved : (r : ℕ) → 16 ≤ r → r < 24 → is_callee_saved r ≡ true
-home_callee_saved r low high = rw (lt-ltb 15 r (omega (arith, low)), lt-ltb r 24 high)
+pub choice_callee_saved : {func : RFunc} {frame : Frame} → IsChoice func frame → AreCalleeSaved frame.homes.items
+choice_callee_saved is x r at =
+    let range = (is.registers x r at).0 in
+    rw (lt-ltb 15 r (omega (arith, range.0)), lt-ltb r 24 range.1)
 
 -- a home of a choice is its cell
 pub plain : {func : RFunc} {frame : Frame} → IsChoice func frame → (x : ℕ) (h : Home) → slice_get frame.homes.items x ≡ Some h → cell h ≡ h
@@ -169,20 +171,23 @@ serves func frame is = record {
   homes = record {
     apart = λ x y h g at_x at_y e. is.apart x y g (at_x ∙ ap Some (sym (plain is x h at_x) ∙ e ∙ plain is y g at_y)) at_y;
     kept = λ x r got lasts. (is.registers x r got).1;
-    local = λ x r got passes. absurd (true≢false (sym (home_callee_saved r (is.registers x r got).0.0 (is.registers x r got).0.1) ∙ passes));
+    local = λ x r got passes. absurd (true≢false (sym (choice_callee_saved is x r got) ∙ passes));
     named = names_have frame.homes.items func is.long;
   };
   parameters = parameters_have frame.homes.items func is.long;
 }
 
--- where each frame serves its function, the run over homes is the run
+-- a frame for each function that serves it
 pub all_serve : (IsFrame : RFunc → Frame → Type 0) (h : Homed) → HaveFrames IsFrame h
-    → ((func : RFunc) (frame : Frame) → IsFrame func frame → Serves frame func) → KeepsRtlRuns homed_run h
-all_serve IsFrame h is serve = each_homed_run h (record {
+    → ((func : RFunc) (frame : Frame) → IsFrame func frame → Serves frame func) → AreAllHomes h
+all_serve IsFrame h is serve = record {
   by = λ i func got.
       (let there = at_index h.frames.items i (omega (arith, slice_get_within (h.rtl.now).functions i func got, is.long)) in
       (there.0, there.1, serve func there.0 (is.by i func there.0 got there.1)));
-})
+}
+
+pub choices_serve : (h : Homed) → AreChoices h → AreAllHomes h
+choices_serve h is = all_serve IsChoice h is serves
 
 pub choice_keeps_runs : (h : Homed) → AreChoices h → KeepsRtlRuns homed_run h
-choice_keeps_runs h is = all_serve IsChoice h is serves
+choice_keeps_runs h is = each_homed_run h (choices_serve h is)

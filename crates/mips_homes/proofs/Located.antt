@@ -19,9 +19,9 @@ use Rattle.mips_homes.specs.Copies.{unused}
 use Rattle.mips_homes.specs.Places.{first_free, free_register, home_or, also, places_from, is_register, lives_in, still_saved, is_slot, some_slot}
 use Rattle.mips_homes.specs.Places.{IsPlaced, IsPlacedFor, ArePlaced}
 use Rattle.mips_homes.proofs.Choosing.{is_in_at}
-use Rattle.mips_homes.proofs.Chosen.{in_at, home_callee_saved, names_have, parameters_have, plain, all_serve}
+use Rattle.mips_homes.proofs.Chosen.{in_at, choice_callee_saved, names_have, parameters_have, plain, all_serve}
 use Rattle.mips_homes.proofs.Copying.{copied_get, copied_long}
-use Rattle.mips_homes.proofs.Lockstep.{is_in_first}
+use Rattle.mips_homes.proofs.Lockstep.{AreCalleeSaved, each_homed_run, is_in_first}
 use Rattle.mips_homes.proofs.Seeing.{in_append}
 use Rattle.mips_homes.specs.declared.homed.Home.{Home}
 use Rattle.mips_homes.specs.declared.homed.Home.TheVariants.{Reg}
@@ -31,10 +31,6 @@ use Rattle.rtl.specs.declared.block.RBlock.{RBlock}
 use Rattle.rtl.specs.declared.block.RFunc.{RFunc}
 
 -- ---- what places are
-
--- homes that outlive blocks
-abbrev pub AreCalleeSaved : List Home → Type 0
-AreCalleeSaved hs = (x r : ℕ) → slice_get hs x ≡ Some (Reg r) → is_callee_saved r ≡ true
 
 abbrev pub Apart : List Home → Type 0
 Apart hs = (x y : ℕ) (h : Home) → slice_get hs x ≡ Some h → slice_get hs y ≡ Some h → x ≡ y
@@ -226,9 +222,6 @@ module _ (func : RFunc) (c f : Frame) (ok : IsChoice func c) (p : IsPlaced func.
   abbrev pub GetsTemporaryIn : ℕ → Home → Type 0
   GetsTemporaryIn x h = GetsTemporary locals preferred x [] h
 
-  choice_callee_saved : AreCalleeSaved c.homes.items
-  choice_callee_saved x r e = let range = ok.registers x r e in home_callee_saved r range.0.0 range.0.1
-
   -- the homes before slots have copies
   abbrev pub uncopied : List Home
   uncopied = places_from locals preferred 0 [] c.homes.items
@@ -274,7 +267,7 @@ module _ (func : RFunc) (c f : Frame) (ok : IsChoice func c) (p : IsPlaced func.
 
   pub placed_apart : AreApart f.homes.items
   placed_apart x y h g a b e =
-      places_apart locals preferred preferences 0 [] c.homes.items choice_callee_saved ok.apart
+      places_apart locals preferred preferences 0 [] c.homes.items (choice_callee_saved ok) ok.apart
       x y (cell g) (before_copy x h a ∙ ap Some e) (before_copy y g b)
 
   placed_serves : Serves f func
@@ -292,8 +285,8 @@ module _ (func : RFunc) (c f : Frame) (ok : IsChoice func c) (p : IsPlaced func.
       local : (x r : ℕ) → slice_get f.homes.items x ≡ Some (Reg r) → is_callee_saved r ≡ false → (b : ℕ) (block : RBlock)
           → slice_get func.blocks.items b ≡ Some block → some_go_to func.blocks.items b ≡ true → block_reads_first block x ≡ false
       local x r e passes b block there goes = ⊎_elim
-          (λ home. absurd (true≢false (sym (choice_callee_saved x r home) ∙ passes)))
+          (λ home. absurd (true≢false (sym (choice_callee_saved ok x r home) ∙ passes)))
           (λ q. local_to func.blocks.items x q.local b block there goes) (case_of x (Reg r) e)
 
 pub places_keep_runs : (h : Homed) → ArePlaced h → KeepsRtlRuns homed_run h
-places_keep_runs h is = all_serve IsPlacedFor h is (λ func frame q. placed_serves func q.choice frame q.is q.placed)
+places_keep_runs h is = each_homed_run h (all_serve IsPlacedFor h is (λ func frame q. placed_serves func q.choice frame q.is q.placed))
