@@ -17,25 +17,15 @@ sees_none k s = record { first = λ x. grind arith; unwritten = λ x. grind arit
 
 pub in_append : (xs ys : List ℕ) (x : ℕ) → is_in (xs ++ ys) x ≡ (is_in xs x || is_in ys x)
 in_append [] ys x = refl
-in_append (y ∷ xs) ys x = by (nat_eq x y) (in_append xs ys x)
-  where
-    by : (c : Bool) → is_in (xs ++ ys) x ≡ (is_in xs x || is_in ys x) → (c || is_in (xs ++ ys) x) ≡ ((c || is_in xs x) || is_in ys x)
-    by true e = refl
-    by false e = e
+in_append (y ∷ xs) ys x = grind (arith, in_append xs ys x)
 
 -- reads, and then more of them and writes
 pub sees_then : (k : ℕ) (s t u : List Sight) (xs ys ws : List ℕ) → Sees k s t xs [] → Sees k t u ys ws → Sees k s u (xs ++ ys) ws
 sees_then k s t u xs ys ws a b = record {
-  first = λ x. cc (b.first x, a.first x, a.unwritten x, both (is_read_first s x) (is_unwritten k s x) (is_in xs x) (is_in ys x), in_append xs ys x);
-  unwritten = λ x. cc (b.unwritten x, a.unwritten x, still (is_unwritten k s x) (is_in ws x));
+  first = λ x. grind (arith, b.first x, a.first x, a.unwritten x, in_append xs ys x);
+  unwritten = λ x. grind (arith, b.unwritten x, a.unwritten x);
   late = λ up. b.late (a.late up);
 }
-  where
-    both : (f n p q : Bool) → ((f || (n && p)) || ((n && not false) && q)) ≡ (f || (n && (p || q)))
-    both f n p q = grind arith
-
-    still : (n w : Bool) → ((n && not false) && not w) ≡ (n && not w)
-    still n w = grind arith
 
 -- ---- a block
 
@@ -53,21 +43,9 @@ seen_start k s block before = record {
 pub seen_step : (k : ℕ) (s t u : List Sight) (is is' : List RInst) (j : ℕ) (i d : RInst) (block : RBlock) → is' ≡ is → j < length is'
     → i ≡ get_or is' j d → Sees k t u (inst_reads i) (inst_writes i) → IsSeenTo k s t (drop j is) block → IsSeenTo k s u (drop (j + 1) is) block
 seen_step k s t u is is' j i d block same lt at one before = record {
-  first = λ x. cc (
-    one.first x,
-    one.unwritten x,
-    here,
-    before.first x,
-    step (is_read_first t x) (is_unwritten k t x) (is_in (inst_reads i) x) (is_in (inst_writes i) x) (reads_first (drop (j + 1) is) block.exit x),
-  );
+  first = λ x. grind (arith, one.first x, one.unwritten x, before.first x, at_drop_more (λ l. reads_first l block.exit x) is' j d lt);
   late = one.late before.late;
 }
-  where
-    here : drop j is ≡ i ∷ drop (j + 1) is
-    here = cc (at_drop_more (λ l. l) is' j d lt)
-
-    step : (f n r w rest : Bool) → ((f || (n && r)) || ((n && not w) && rest)) ≡ (f || (n && (if r then true else if w then false else rest)))
-    step f n r w rest = grind arith
 
 pub seen_end : (k : ℕ) (s t u : List Sight) (is : List RInst) (block : RBlock) → is ≡ [] → Sees k t u (exit_reads block.exit) []
     → IsSeenTo k s t is block → (x : ℕ) → is_read_first u x ≡ (is_read_first s x || block_reads_first block x)
@@ -98,20 +76,10 @@ pub are_seen_step : (bs : List RBlock) (i : ℕ) (b : RBlock) (s t : List Sight)
     → ((x : ℕ) → is_read_first t x ≡ (is_read_first s x || block_reads_first b x)) → IsUpTo (i + 1) t → AreSeenTo i s (drop i bs) bs
     → AreSeenTo (i + 1) t (drop (i + 1) bs) bs
 are_seen_step bs i b s t lt at one late before = record {
-  first = λ x. cc (one x, here, step (is_read_first s x) (block_reads_first b x) (none_reads_first true (drop (i + 1) bs) x), before.first x);
+  first = λ x. grind (arith, one x, before.first x, at_drop_more (λ l. none_reads_first true l x) bs i b lt);
   late = late;
 }
-  where
-    here : drop i bs ≡ b ∷ drop (i + 1) bs
-    here = cc (at_drop_more (λ l. l) bs i b lt)
-
-    step : (f r rest : Bool) → (not (f || r) && rest) ≡ (not f && (if true && r then false else rest))
-    step f r rest = grind arith
 
 pub are_seen_end : (bs : List RBlock) (i : ℕ) (s : List Sight) → length bs ≤ i → AreSeenTo i s (drop i bs) bs
     → (x : ℕ) → not (is_read_first s x) ≡ is_local bs x
-are_seen_end bs i s le before x = all (not (is_read_first s x)) ∙ rw (drop_all i bs le) at (before.first x)
-  where
-    all : (b : Bool) → b ≡ (b && true)
-    all true = refl
-    all false = refl
+are_seen_end bs i s le before x = grind (arith, rw (drop_all i bs le) at (before.first x))
