@@ -1,5 +1,5 @@
 -- Copies of slots.
-use Rattle.std.proofs.Common.{◌≡◌, ℕ, zero, suc, ◌+◌, ◌<◌, Bool, true, false, List, [], ◌∷◌, ◌++◌, Some, refl, sym, ap, ◌∙◌, length, get_or, drop, drop-drop}
+use Rattle.std.proofs.Common.{◌≡◌, ℕ, zero, suc, ◌+◌, ◌<◌, Bool, true, false, List, [], ◌∷◌, ◌++◌, Some, refl, sym, ap, ◌∙◌, arith, length, get_or, drop, drop-drop}
 use Rattle.std.specs.Prelude.{if◌then◌else◌, Option, None, slice_get}
 use Rattle.std.proofs.lemmas.Bool.{cond_both}
 use Rattle.std.proofs.lemmas.List.{append_assoc, at_drop_more}
@@ -59,6 +59,4 @@ onto_long free [] = refl
 onto_long free (h ∷ hs) = ap suc (onto_long (if is_slot h then drop 1 free else free) hs)
 
 pub copied_long : (bs : List RBlock) (hs : List Home) → length (copied bs hs) ≡ length hs
-copied_long bs hs =
-    cond_both (is_leaf bs) (copied_onto (unused hs temporaries) hs) hs (λ l. length l ≡ length hs)
-    (λ _. onto_long (unused hs temporaries) hs) (λ _. refl)
+copied_long bs hs = grind (arith, onto_long (unused hs temporaries) hs)

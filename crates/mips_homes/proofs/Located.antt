@@ -148,15 +148,12 @@ local_to : (bs : List RBlock) (x : ℕ) → is_local bs x ≡ true → (b : ℕ)
     → block_reads_first block x ≡ false
 local_to bs x is b block there goes = from (some_go_to bs 0) bs b is there (λ z. sym (ap (some_go_to bs) z) ∙ goes)
   where
-    either : (a c : Bool) (rest : Bool) → (if a && c then false else rest) ≡ true → (a ≡ true → c ≡ false) × (rest ≡ true)
-    either a c rest e = grind arith
-
     from : (first : Bool) (ks : List RBlock) (b : ℕ) → none_reads_first first ks x ≡ true → slice_get ks b ≡ Some block → (b ≡ 0 → first ≡ true)
         → block_reads_first block x ≡ false
     from first [] b e there met = absurd (none-some block there)
     from first (k ∷ ks) zero e there met =
-        rw (← same_Some k block there) ((either first (block_reads_first k x) (none_reads_first true ks x) e).0 (met refl))
-    from first (k ∷ ks) (suc b) e there met = from true ks b (either first (block_reads_first k x) (none_reads_first true ks x) e).1 there (λ z. refl)
+        rw (← same_Some k block there) (grind (arith, met refl))
+    from first (k ∷ ks) (suc b) e there met = from true ks b (grind arith) there (λ z. refl)
 
 -- ---- preferences
 
@@ -186,9 +183,6 @@ pub unused_temporary : (hs : List Home) (j r : ℕ) → slice_get (unused hs tem
 unused_temporary hs j r e =
     let both = and_parts (is_in temporaries r) (not (lives_in hs r)) (sym (in_unused hs temporaries r) ∙ is_in_at (unused hs temporaries) j r e) in
     (temporary_is r both.0, not-true (lives_in hs r) both.1)
-
-pub unused_range : (hs : List Home) (j r : ℕ) → slice_get (unused hs temporaries) j ≡ Some r → (0 < r) × (r < 32)
-unused_range hs j r e = omega (arith, (unused_temporary hs j r e).0.0, (unused_temporary hs j r e).0.1)
 
 pub lives : (hs : List Home) (x r : ℕ) → slice_get hs x ≡ Some (Reg r) → lives_in hs r ≡ true
 lives hs x r e = any_passes_from_place (λ h. is_register h r) hs x (Reg r) e (eq-eqb r r refl)

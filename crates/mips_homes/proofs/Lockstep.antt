@@ -128,11 +128,7 @@ reads_all : {hs : List Home} {registers slots regs : Places} {wanted : ℕ → B
 reads_all [] ag n all = refl
 reads_all (x ∷ xs) ag n all = rw (reads ag n.0 (all x (is_in_first x xs)), reads_all xs ag n.1 (λ y e. all y (is_in_later y x xs e)))
 
--- what an instruction reads is wanted before it
-read_by : (i : RInst) (is : List RInst) (e : RExit) (x : ℕ) → is_in (inst_reads i) x ≡ true → reads_first (i ∷ is) e x ≡ true
-read_by i is e x t = rw t
-
--- and what is wanted behind it, unless it writes it
+-- what is wanted behind an instruction is wanted before it, unless it writes it
 kept_by : (i : RInst) (is : List RInst) (e : RExit) (x : ℕ) → is_in (inst_writes i) x ≡ false → reads_first is e x ≡ true → reads_first (i ∷ is) e x ≡ true
 kept_by i is e x out t = rw (out, t) (cond_both (is_in (inst_reads i) x) true true (λ b. b ≡ true) (λ _. refl) (λ _. refl))
 
@@ -189,8 +185,7 @@ module _ (h : Homed) where
   Stack registers (a ∷ ws) (r ∷ rs) =
       Stands a.frame a.blocks a.result_to ws (Stack (below a.frame.saved.items a.aside registers) ws rs)
       × Agrees a.frame.homes.items registers a.slots r (reads_first a.code.insts a.code.exit) × CodeHasHomes a.frame.homes.items a.blocks a.code
-  Stack registers [] (r ∷ rs) = ⊥
-  Stack registers (a ∷ ws) [] = ⊥
+  Stack registers _ _ = ⊥
 
   abbrev pub Alike : Run → Meaning.Run → Type 0
   Alike (Running registers [] g out) t = ⊥
@@ -278,7 +273,7 @@ module _ (h : Homed) where
         Before i = Agrees hs r s regs (reads_first (i ∷ is) e)
 
         get : (i : RInst) (x : ℕ) → Before i → HasHome hs x → is_in (inst_reads i) x ≡ true → read_home hs r s x ≡ regs x
-        get i x ag has t = reads ag has (read_by i is e x t)
+        get i x ag has t = reads ag has (rw t)
 
         put : (i : RInst) (d v : ℕ) → Before i → HasHome hs d → inst_writes i ≡ d ∷ []
             → Alike (write_home (cells hs r s) d v out (λ r' s'. go r' s' g)) (go' (places_with regs d (Some v)) g)

@@ -1,10 +1,7 @@
 use Rattle.std.proofs.Common.{subst, arith, ◌≡◌}
 use Rattle.mips_homes.specs.Best.{AreFirst}
-use Rattle.mips_homes.proofs.Placing.{none_first, one_more_first}
+use Rattle.mips_homes.proofs.Placing.{one_more_first}
 use Rattle.mips_homes.proofs.frames.first_registers.Goals as goal
-
-pub loop-j-init : goal.loop-j-init
-loop-j-init c = none_first c.new-saved.result.items c.new-saved.ensures.items
 
 pub loop-j-preserved : goal.loop-j-preserved
 loop-j-preserved c = one_more_first c.loop-j.j c.loop-j.saved.items _ c.in_ok-push.ensures.items c.loop-j.invariant

@@ -1,22 +1,9 @@
 use Rattle.std.proofs.Common.{◌≡◌, ◌++◌, ◌∷◌, [], ap, ◌∙◌, subst, arith}
 use Rattle.mips_homes.specs.declared.homed.Home.TheVariants.{Reg}
-use Rattle.std.proofs.lemmas.Option.{slice_get_within}
 use Rattle.mips_homes.specs.Best.{AreHomesOf}
 use Rattle.mips_homes.proofs.Placing.{home_register, home_slot}
 use Rattle.mips_homes.proofs.frames.homes_of.Goals as goal
 use Rattle.mips_homes.proofs.frames.homes_of.Goals.{in-Some+in_ok-push-in-Some, in-None+in_ok-push-in-None}
-
-pub overflow_cast-j : goal.overflow_cast-j
-overflow_cast-j c = omega (arith, slice_get_within c.args.best.now c.in-Some.j c.loop-x.x c.in-Some.ensures, c.requires.few)
-
-pub overflow_add-j : goal.overflow_add-j
-overflow_add-j c = omega (arith, slice_get_within c.args.best.now c.in-Some.j c.loop-x.x c.in-Some.ensures, c.requires.few)
-
-pub overflow_cast-slots : goal.overflow_cast-slots
-overflow_cast-slots c = omega (arith, c.loop-x.invariant.counted, c.loop-x-test.true, c.requires.small)
-
-pub overflow_add-slots : goal.overflow_add-slots
-overflow_add-slots c = omega (arith, c.loop-x.invariant.counted, c.loop-x-test.true, c.requires.small)
 
 pub loop-x-preserved : goal.loop-x-preserved
 loop-x-preserved c = elim c.match-rank_of.branch [

@@ -3,9 +3,6 @@ use Rattle.std.proofs.lemmas.Result.{IfOk-weaker}
 use Rattle.mips_homes.specs.Places.{IsPlaced}
 use Rattle.mips_homes.proofs.places.placed_frame.Goals as goal
 
-pub frame_with_places-requires : goal.frame_with_places-requires
-frame_with_places-requires c = c.in_ok-choice.ensures.few
-
 pub returns : goal.returns
 returns c = IfOk-weaker c.frame_with_places.result _ _ (λ f h. record {
   choice = c.in_ok-choice.choice;
