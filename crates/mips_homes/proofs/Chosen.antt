@@ -33,11 +33,9 @@ members : (n : ℕ) (best : List ℕ) → ((i j x : ℕ) → slice_get best i �
 members n [] once low = count_none (is_in []) n (λ y lt. refl)
 members n (b ∷ bs) once low =
     count_more (is_in (b ∷ bs)) (is_in bs) n b (low 0 b refl) (λ y lt ne. ap (λ c. c || is_in bs y) (ne_eqb y b ne))
-    (is_in_at (b ∷ bs) 0 b refl) (false_from_ne_true (is_in bs b) again)
+    (is_in_at (b ∷ bs) 0 b refl)
+    (false_from_ne_true (is_in bs b) (λ e. let there = in_at bs b e in absurd (omega (arith, once 0 (suc there.0) b refl there.1))))
     ∙ ap suc (members n bs (λ i j x p q. omega (arith, once (suc i) (suc j) x p q)) (λ j x p. low (suc j) x p))
-  where
-    again : is_in bs b ≡ true → ⊥
-    again e = (let there = in_at bs b e in absurd (omega (arith, once 0 (suc there.0) b refl there.1)))
 
 -- the slots grow
 slot_below : (best : List ℕ) (x y : ℕ) → x < y → is_in best x ≡ false → count_below (is_in best) y + x + 1 ≤ count_below (is_in best) x + y

@@ -1,5 +1,5 @@
 -- Copies of slots.
-use Rattle.std.proofs.Common.{◌≡◌, ℕ, zero, suc, ◌+◌, ◌<◌, Bool, true, false, List, [], ◌∷◌, ◌++◌, Some, refl, sym, ap, ◌∙◌, arith, length, get_or, drop, drop-drop}
+use Rattle.std.proofs.Common.{◌≡◌, ℕ, zero, suc, ◌+◌, ◌<◌, ◌≤◌, Bool, true, false, List, [], ◌∷◌, ◌++◌, Some, refl, sym, ap, ◌∙◌, arith, length, get_or, drop, drop-drop}
 use Rattle.std.specs.Prelude.{if◌then◌else◌, Option, None, slice_get}
 use Rattle.std.proofs.lemmas.Bool.{cond_both}
 use Rattle.std.proofs.lemmas.List.{append_assoc, at_drop_more}
@@ -15,14 +15,17 @@ use Rattle.mips_homes.specs.Convention.{temporaries}
 
 pub copied_step : (free : List ℕ) (hs : List Home) (i used used' : ℕ) (out out' all : List Home) (h : Home) (b : Bool) → i < length hs
     → h ≡ get_or hs i h → is_slot h ≡ b → used' ≡ (if b then used + 1 else used) → out' ≡ out ++ with_copy h (slice_get free used) ∷ []
-    → out ++ copied_onto (drop used free) (drop i hs) ≡ all → out' ++ copied_onto (drop used' free) (drop (i + 1) hs) ≡ all
-copied_step free hs i used used' out out' all h b within here slot used_is out_is before =
-    cc (
-      append_assoc out (with_copy h (slice_get free used) ∷ []) (copied_onto (drop (if b then used + 1 else used) free) (drop (i + 1) hs)),
-      got_drop free used,
-      left b,
-      at_drop_more (λ l. l) hs i h within,
-    )
+    → (used ≤ i) × (out ++ copied_onto (drop used free) (drop i hs) ≡ all)
+    → (used' ≤ i + 1) × (out' ++ copied_onto (drop used' free) (drop (i + 1) hs) ≡ all)
+copied_step free hs i used used' out out' all h b within here slot used_is out_is before = (
+  grind (arith, before.0),
+  cc (
+    append_assoc out (with_copy h (slice_get free used) ∷ []) (copied_onto (drop (if b then used + 1 else used) free) (drop (i + 1) hs)),
+    got_drop free used,
+    left b,
+    at_drop_more (λ l. l) hs i h within,
+  ),
+)
   where
     got_drop : (l : List ℕ) (n : ℕ) → slice_get (drop n l) 0 ≡ slice_get l n
     got_drop l zero = refl

@@ -147,10 +147,7 @@ module _ {hs : List Home} {saved : List ℕ} {blocks : List RBlock} (ok : AreHom
     where
       by : (x : ℕ) (h : Home) → slice_get hs x ≡ Some h → (is_caller_saved h ≡ true → block_reads_first block x ≡ true)
           → in_home (callee_saved registers) slots h ≡ regs x
-      by x (Reg r) at m =
-          cond_both (is_callee_saved r) (registers r) None (λ o. o ≡ regs x)
-          (λ saved. ag.by x (Reg r) at (λ c. absurd (true≢false (sym c ∙ ap not saved))))
-          (λ passes. absurd (true≢false (sym (m (ap not passes)) ∙ ok.local x r at passes b block there goes)))
+      by x (Reg r) at m = grind (arith, ag.by x (Reg r) at, m, λ (passes : is_callee_saved r ≡ false). ok.local x r at passes b block there goes)
       by x h at m = ag.by x h at (λ c. absurd (true≢false (sym c)))
 
   -- a function begins with all its homes unset
@@ -377,16 +374,12 @@ module _ (h : Homed) where
       goes_on ag out b there =
           jumps b a a.slots regs (record u { registers = callee_saved u.registers; output = out }) rs leaves (settles at.homes ag b there)
 
-      one_of : (x y : ℕ) (b : Bool) → is_in (x ∷ y ∷ []) (if b then y else x) ≡ true
-      one_of x y true = is_in_later y x (y ∷ []) (is_in_first y [])
-      one_of x y false = is_in_first x (y ∷ [])
-
       exits : (exit : RExit) → Agrees hs u.registers a.slots regs (reads_first [] exit) → HaveHomes hs (exit_names exit)
           → ((t : ℕ) → is_in (goes_to exit) t ≡ true → some_go_to a.blocks t ≡ true)
           → Alike (state_after_exit h depth exit a u) (Meaning.state_after_exit (over a.result_to u rs) a.blocks regs exit)
       exits (Goto b) ag n goes = goes_on ag u.output b (goes b (is_in_first b []))
       exits (Branch c x y) ag n goes = both_value _ _ _ (reads ag n.0 (is_in_first c [])) (λ v _.
-          goes_on ag u.output (if v == 0 then y else x) (goes (if v == 0 then y else x) (one_of x y (v == 0))))
+          goes_on ag u.output (if v == 0 then y else x) (goes (if v == 0 then y else x) (grind (arith, nat_tests))))
       exits (Call f xs d next) ag n goes =
           both_value _ _ _ (reads_all xs.items ag (named_parts hs xs.items (optional d) n).0 (λ x t. t)) (λ vs _.
           both_value _ _ _ refl (λ block e.

@@ -1,4 +1,4 @@
-use Rattle.std.proofs.Common.{◌≡◌, List, sym, ap, ◌∙◌, ◌++◌, ◌∷◌, [], arith}
+use Rattle.std.proofs.Common.{◌≡◌, List, sym, ap, ◌∙◌, ◌++◌, ◌∷◌, []}
 use Rattle.std.specs.Prelude.{slice_get}
 use Rattle.mips_homes.specs.declared.homed.Home.{Home}
 use Rattle.mips_homes.specs.Copies.{with_copy}
@@ -13,14 +13,8 @@ loop-home-preserved c =
     let more = ◌∙◌ {A = List Home} c.in_ok-push.ensures.items (ap (λ h. c.loop-home.out.items ++ h ∷ []) copy) in
     let step = copied_step c.args.free.now c.args.homes.now c.loop-home.home-index c.loop-home.used in
     elim c.if-is_slot.branch [
-      | then-is_slot w ↦ (
-        omega (arith, c.loop-home.invariant.0, w.used-is),
-        step _ _ _ _ _ _ c.loop-home-test.true c.home-item.is
-            (sym c.is_slot.ensures ∙ w.if-is_slot.true) w.used-is more c.loop-home.invariant.1,
-      )
-      | else-is_slot w ↦ (
-        omega (arith, c.loop-home.invariant.0, w.used-is),
-        step _ _ _ _ _ _ c.loop-home-test.true c.home-item.is
-            (sym c.is_slot.ensures ∙ w.if-is_slot.false) w.used-is more c.loop-home.invariant.1,
-      )
+      | then-is_slot w ↦ step _ _ _ _ _ _ c.loop-home-test.true c.home-item.is
+          (sym c.is_slot.ensures ∙ w.if-is_slot.true) w.used-is more c.loop-home.invariant
+      | else-is_slot w ↦ step _ _ _ _ _ _ c.loop-home-test.true c.home-item.is
+          (sym c.is_slot.ensures ∙ w.if-is_slot.false) w.used-is more c.loop-home.invariant
     ]
