@@ -1,7 +1,6 @@
 -- What a walk over blocks sees, one instruction after another.
 use Rattle.std.proofs.Common.{◌≡◌, ℕ, ◌+◌, ◌<◌, ◌≤◌, true, ◌&&◌, List, [], ◌∷◌, ◌++◌, refl, sym, ap, ◌∙◌, arith, length, drop, get_or}
 use Rattle.std.specs.Prelude.{◌||◌, not}
-use Rattle.std.proofs.Common.{ne_eqb}
 use Rattle.std.proofs.lemmas.List.{drop_all, at_drop_more}
 use Rattle.rtl.specs.declared.instruction.RInst.{RInst}
 use Rattle.rtl.specs.declared.block.RBlock.{RBlock}
@@ -33,12 +32,6 @@ sees_then k s t u xs ys ws a b = record {
 pub record IsSeenTo (k : ℕ) (start now : List Sight) (is : List RInst) (block : RBlock) : Type 0 where
   pub first : (x : ℕ) → (is_read_first now x || (is_unwritten k now x && reads_first is block.exit x)) ≡ (is_read_first start x || block_reads_first block x)
   pub late : IsUpTo k now
-
-pub seen_start : (k : ℕ) (s : List Sight) (block : RBlock) → ((x : ℕ) → (sight_at s x).written_in < k) → IsSeenTo k s s block.insts.items block
-seen_start k s block before = record {
-  first = λ x. rw (ne_eqb (sight_at s x).written_in k (λ e. absurd (omega (arith, e, before x))));
-  late = λ x. omega (arith, before x);
-}
 
 pub seen_step : (k : ℕ) (s t u : List Sight) (is is' : List RInst) (j : ℕ) (i d : RInst) (block : RBlock) → is' ≡ is → j < length is'
     → i ≡ get_or is' j d → Sees k t u (inst_reads i) (inst_writes i) → IsSeenTo k s t (drop j is) block → IsSeenTo k s u (drop (j + 1) is) block

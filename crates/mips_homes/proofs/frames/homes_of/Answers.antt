@@ -1,6 +1,5 @@
-use Rattle.std.proofs.Common.{◌≡◌, ◌++◌, ◌∷◌, [], ap, ◌∙◌, subst, arith}
+use Rattle.std.proofs.Common.{◌++◌, ◌∷◌, [], ap, ◌∙◌}
 use Rattle.mips_homes.specs.declared.homed.Home.TheVariants.{Reg}
-use Rattle.mips_homes.specs.Best.{AreHomesOf}
 use Rattle.mips_homes.proofs.Placing.{home_register, home_slot}
 use Rattle.mips_homes.proofs.frames.homes_of.Goals as goal
 use Rattle.mips_homes.proofs.frames.homes_of.Goals.{in-Some+in_ok-push-in-Some, in-None+in_ok-push-in-None}
@@ -16,8 +15,3 @@ loop-x-preserved c = elim c.match-rank_of.branch [
       (rw w.slots-is
       (home_slot c.args.best.now c.loop-x.x c.loop-x.slots c.loop-x.homes.items _ w.in_ok-push-in-None.ensures.items w.in-None.ensures c.loop-x.invariant))
 ]
-
-pub returns : goal.returns
-returns c =
-    let all : c.loop-x.x ≡ c.args.n = omega (arith, c.loop-x.auto.x-end, c.loop-x-test.false) in
-    subst (λ n. AreHomesOf c.args.best.now n c.loop-x.homes.items c.loop-x.slots) all c.loop-x.invariant

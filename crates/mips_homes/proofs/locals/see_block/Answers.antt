@@ -1,11 +1,8 @@
 use Rattle.std.proofs.Common.{drop, length, refl, ap, arith}
 use Rattle.std.proofs.lemmas.List.{drop_all}
 use Rattle.std.proofs.lemmas.Result.{IfOk-weaker}
-use Rattle.mips_homes.proofs.Seeing.{seen_start, seen_step, seen_end}
+use Rattle.mips_homes.proofs.Seeing.{seen_step, seen_end}
 use Rattle.mips_homes.proofs.locals.see_block.Goals as goal
-
-pub loop-inst-init : goal.loop-inst-init
-loop-inst-init c = seen_start c.args.k c.args.sights.now.items c.args.block.now c.requires
 
 pub loop-inst-preserved : goal.loop-inst-preserved
 loop-inst-preserved c =
