@@ -14,7 +14,7 @@ use Rattle.rtl.specs.declared.block.RBlock.{RBlock}
 use Rattle.rtl.specs.declared.limits.TheConstants.{MAX_REGISTERS, MAX_BLOCKS}
 use Rattle.runs.specs.Runs.{with_value}
 use Rattle.rtl.specs.Meaning.{Code, activation, around_callee, code_of, words_in, state_after_call}
-use Rattle.rtl_emit.specs.Blocks.{Spot, Block, Line, Lands, Grows, Has, Reserves, Fills, open_code, exit_code, first, spot, line_of, insts_of, insts_at, insts_in}
+use Rattle.rtl_emit.specs.Blocks.{At, Spot, Block, Line, Lands, Grows, Has, Reserves, Fills, open_code, exit_code, first, spot, line_of, insts_of, insts_at, insts_in}
 use Rattle.rtl_emit.specs.Emits.{Description, Emits, value, operand, operands, condition_branch}
 use Rattle.rtl_emit.specs.Expressions.{IsPlace, Fetches, AddPlaces}
 use Rattle.rtl_emit.specs.Sizes.{joint, place_registers, places_registers, next_free, value_registers, value_blocks, condition_blocks}
@@ -33,15 +33,14 @@ use Rattle.rtl_emit.proofs.Sound.{sound_along, sound_first, sound_exit, sound_li
 use Rattle.rtl_lower.specs.Emits.{simple_code, statement_code, statements_code, made_of, side_code}
 use Rattle.rtl_lower.specs.Emits.{receiver, IsEnd, end_of_turn, last_size, last_code}
 use Rattle.rtl_lower.specs.Sizes.{stays, is_equality, continues, receiver_blocks, statement_joint, statements_joint}
-use Rattle.rtl_lower.specs.Sizes.{statement_blocks, statements_blocks}
+use Rattle.rtl_lower.specs.Sizes.{statement_blocks, statements_blocks, statements_registers, numbers_named_in}
 use Rattle.rtl_lower.specs.Coded.{enclosing, FetchesFirst}
 use Rattle.rtl_lower.specs.declared.context.Context.{Context}
 use Rattle.rtl_lower.specs.declared.simple.Receiver.{Receiver}
 use Rattle.rtl_lower.specs.declared.statement.Turn.{Turn}
-use Rattle.rtl_lower.proofs.Sizes.{rest_blocks, rest_registers, rest_numbers}
-use Rattle.rtl_lower.proofs.Sound.{fewer, named, named_all, in_scope, callee_sound, place_registers_sound, within_filled, reserved_within}
-use Rattle.rtl_lower.proofs.Statements.{turn_block, has_before, has_past, at_filled}
-use Rattle.rtl_lower.proofs.Spots.{comes_equal}
+use Rattle.rtl_lower.proofs.Sizes.{rest_within}
+use Rattle.rtl_lower.proofs.Sound.{fewer, named, named_all, in_scope, callee_sound, place_registers_sound}
+use Rattle.rtl_lower.proofs.Follows.{comes_equal, comes_join}
 
 -- the same size, and less told
 meant : {A : Type 0} {part whole : Description A} {old new : List RBlock} {r : Result A LowerFault} → Emits part old new r
@@ -50,9 +49,18 @@ meant : {A : Type 0} {part whole : Description A} {old new : List RBlock} {r : R
 meant {old = old} e sizes keeps does = ended 0 e sizes (grows_same old) (omega arith) keeps does
 
 -- what an Ok promises
-emitted : {A : Type 0} {d : Description A} {old new : List RBlock} (x : A) → Grows old new → length new ≡ length old + d.size.blocks
+pub emitted : {A : Type 0} {d : Description A} {old new : List RBlock} (x : A) → Grows old new → length new ≡ length old + d.size.blocks
     → d.size.registers ≤ MAX_REGISTERS → d.Keeps old new x → Over old new (d.Does x) → Emits d old new (Ok x)
 emitted x grows count room keeps does = record { grows = grows; count = count; room = room; limit = tt; sound = keeps; does = does }
+
+-- the blocks that were there before one of these was filled
+has_beside : {b0 b5 b6 : List RBlock} {head : ℕ} {c : Code} (bs a b : List RBlock) → Fills b5 b6 head c → Has bs b0 b6 → Grows b b5
+    → length b0 ≤ length a → (head < length a) ⊎ (length b ≤ head) → Has bs a b
+has_beside {head = head} bs a b f h g low beside = record {
+  by = λ i from to.
+      let ne : i ≢ head = omega arith in
+      h.by i (omega arith) (omega (arith, f.same_length, g.longer)) ∙ f.others i ne ∙ g.kept i to;
+}
 
 -- code as what other code goes on at
 abbrev made : Description Continuation → Description OpenBlock
@@ -267,21 +275,7 @@ nothing_emits old s c after (inl is) = rw is (emitted _ (grows_same old) (omega 
 nothing_emits old s c after (inr is) = rw is.1 (emitted _ (grows_same old) (omega arith) (omega arith)
     (refl, λ p n gives inside f s l g h. (g, h.1.1.1), omega arith) (λ bs h. refl))
 
-pub break_emits : (old : List RBlock) (s : TypedStatement) (c : Context) (after : Spot) → s ≡ break_loop
-    → Emits (statement_code s c after) old old (Ok (Jump c.leave))
-break_emits old s c after is = rw is (emitted _ (grows_same old) (omega arith) (omega arith) (refl, λ p n gives inside f s l g h. (g, h.1.0), omega arith) (λ bs h. refl))
-
-pub continue_emits : (old : List RBlock) (s : TypedStatement) (c : Context) (b : ℕ) (after : Spot) → s ≡ continue_loop → c.next ≡ Some b
-    → Emits (statement_code s c after) old old (Ok (Jump b))
-continue_emits old s c b after is ib = rw is (emitted _ (grows_same old) (omega arith) (omega arith)
-    (refl, λ p n gives inside f s l g h. (g, subst (λ next. IfSome next (λ b. b < s.blocks)) ib h.1.1.0), omega arith) (λ bs h. (b, ib, refl)))
-
 -- lists of statements
-
-pub none_emits : (old : List RBlock) (all : TypedStatements) (c : Context) (after : Continuation) → all ≡ no_statements
-    → Emits (statements_code all c (spot after)) old old (Ok after)
-none_emits old all c after is = rw is (emitted _ (grows_same old) (omega arith) (omega arith)
-    (refl, λ p n gives inside f s l g h. (g, h.1.1.1), omega arith) (λ bs h. refl))
 
 pub more_emits : (old mid new : List RBlock) (all : TypedStatements) (s : TypedStatement) (rest : TypedStatements) (c : Context) (after : Spot)
     (middle : Continuation) (r : Result Continuation LowerFault) → all ≡ more_statements s rest → Emits (statements_code rest c after) old mid (Ok middle)
@@ -303,7 +297,10 @@ pub list_stopped : {old new : List RBlock} {f : LowerFault} {r : Result Continua
     (after : Spot) → r ≡ Err f → Emits (statements_code (statements_of (drop k all)) c after) old new (Err f)
     → Emits (statements_code (statements_of all) c after) old new r
 list_stopped all k c after ir e =
-    part_refused 0 e ir (rest_registers k all c.free) (omega (arith, rest_blocks k all (joint after))) (rest_numbers k all) (grows_same _) (omega arith)
+    part_refused 0 e ir
+    (rest_within (λ l. statements_registers l c.free) (λ s l. omega arith) k all)
+    (omega (arith, rest_within (λ l. statements_blocks l (joint after)) (λ s l. omega arith) k all))
+    (rest_within numbers_named_in (λ s l. omega arith) k all) (grows_same _) (omega arith)
 
 -- `if`
 
@@ -365,20 +362,6 @@ if_emits {b0} {b1} {b2} {b3} {b4} {join} {y} {n} {likely} {after} {r} e a b c il
       test = does bs sp.3;
     }))
 
--- what is told where a part of an `if` is refused: where it goes on, or its second side
-
-pub join_stops : {old new : List RBlock} {f : LowerFault} {r : Result OpenBlock LowerFault} (s : TypedStatement) (c : Context) (after : Spot) → r ≡ Err f
-    → new ≡ old → joint after ≤ statement_blocks s (joint after) → (f ≡ Limit → MAX_BLOCKS < length old + joint after)
-    → Emits (statement_code s c after) old new (made_of r)
-join_stops s c after is same few limit = refused _ (ap made_of is) same (λ l. omega (arith, limit l, few))
-
-pub if_second_stops : {b0 b1 b2 b3 : List RBlock} {join y : ℕ} {after : Spot} {f : LowerFault} {r : Result OpenBlock LowerFault} (e : TypedExpression)
-    (a b : TypedStatement) (c : Context) → r ≡ Err f → Sealing b0 b1 join after → Emits (side_code a c join) b1 b2 (Ok y)
-    → Emits (side_code b c join) b2 b3 (Err f) → Emits (statement_code (if_else e a b) c after) b0 b3 (made_of r)
-if_second_stops {b0} {b1} {b2} {after = after} e a b c is sealing one other =
-    part_refused (joint after + (statement_blocks a 0 + statement_joint a 0)) other (ap made_of is) (omega arith) (omega arith) (omega arith)
-    (grows_then b0 b1 b2 sealing.grows one.grows) (omega (arith, sealing.count, one.count))
-
 -- loops
 
 pub loop_is : {s : TypedStatement} {e : TypedExpression} {a b a' b' : TypedStatement} → s ≡ loop e a b → a' ≡ a → b' ≡ b → s ≡ loop e a' b'
@@ -387,7 +370,7 @@ loop_is is ia ib = rw (ia, ib) is
 pub block_ends : {old new : List RBlock} {many : Bool} {last : Spot} {b : ℕ} → many ≡ true → Sealing old new b last
     → Emits (end_of_turn many last) old new (Ok (record { next = Some b; after = Jump b }))
 block_ends {old} {new} {many} {last} {b} im sealing = rw im (emitted _ sealing.grows sealing.count (omega arith)
-    ((refl, refl), λ s l g h. let j = sealing.sound s l g h in (j.0, (j.1, j.1)), omega (arith, sealing.insts)) (turn_block old new b last sealing.lands))
+    ((refl, refl), λ s l g h. let j = sealing.sound s l g h in (j.0, (j.1, j.1)), omega (arith, sealing.insts)) (λ bs h. record { comes = comes_join bs b last (sealing.lands bs h); continues = λ b' e. (let is : b ≡ b' = cc in rw (← is) (sealing.lands bs h)) }))
 
 pub line_ends : (old : List RBlock) (many : Bool) (last : Continuation) → many ≡ false
     → Emits (end_of_turn many (spot last)) old old (Ok (record { next = None; after = last }))
@@ -417,20 +400,6 @@ turn_emits {b0} {b1} {b2} {b3} {bottom} {code} e last c many again test part end
 grows_filled : (b0 b5 b6 : List RBlock) (head : ℕ) (c : Code) → Grows b0 b5 → length b0 ≤ head → Fills b5 b6 head c → Grows b0 b6
 grows_filled b0 b5 b6 head c g low f =
     record { longer = omega (arith, g.longer, f.same_length); kept = λ i lt. let ne : i ≢ head = omega arith in f.others i ne ∙ g.kept i lt }
-
--- what is told where a loop's first block is refused
-
-pub loop_head_stops : {b0 b1 b2 : List RBlock} {left : ℕ} {after : Spot} {f : LowerFault} {r : Result OpenBlock LowerFault} (e : TypedExpression)
-    (last body : TypedStatement) (c : Context) → r ≡ Err f → Sealing b0 b1 left after → b2 ≡ b1 → (f ≡ Limit → MAX_BLOCKS < length b1 + 1)
-    → Emits (statement_code (loop e last body) c after) b0 b2 (made_of r)
-loop_head_stops {b0} e last body c is sealing same limit = rw (ap made_of is) (record {
-  grows = rw same sealing.grows;
-  count = tt;
-  room = tt;
-  limit = λ l. omega (arith, limit l, sealing.count);
-  sound = tt;
-  does = tt;
-})
 
 -- where the test of a loop leads, and what surrounds its body
 abbrev again : (head left : ℕ) → Targets
@@ -487,12 +456,12 @@ module _ {b0 b1 b2 : List RBlock} {left head : ℕ} {after : Spot} (e : TypedExp
           (omega (arith, turn_count, part.count, test.count, body_blocks, f.same_length)) (omega (arith, turns.room, part.room)) (
             refl,
             λ p n gives inside f' s l g h.
-                let l5 = within_filled f l in
+                let l5 : length b5 ≤ s.blocks = omega (arith, f.same_length, l) in
                 let l4 = within test.grows l5 in
                 let l3 = within part.grows l4 in
                 let l2 = within turns.grows l3 in
                 let j = sealing.sound s (within res.grows l2) g h.1.1.1 in
-                let at : head < s.blocks = reserved_within res l2 in
+                let at : head < s.blocks = omega (arith, res.number, res.longer, l2) in
                 let x = turns.sound.1 p n gives f'.0 f'.1.0 s l3 (kept s j.0) (fewer h.0 (omega arith), (h.1.0, (h.1.1.0, (at, j.1)))) in
                 let y = part.sound.1 p n gives true f'.1.1 s l4 x.0 (fewer h.0 (omega arith), (j.1, x.1)) in
                 let z = test.sound.0 s l5 y.0 ((omega (arith, h.0.registers_fit), named p s n e h.0 f'.0), (at, j.1)) in
@@ -500,17 +469,19 @@ module _ {b0 b1 b2 : List RBlock} {left head : ℕ} {after : Spot} (e : TypedExp
             omega (arith, turns.sound.2, part.sound.2, test.sound.1, ap insts_of ie, line_insts (spot code), i2, i6, sealing.insts),
           )
           (λ bs h.
-          let h2 = has_past bs b0 b2 b5 b6 head filled (omega (arith, sealing.grows.longer, res.longer)) in_b2 f h in
+          let h2 = has_beside bs b2 b5 f h (grows_same b5) (omega (arith, sealing.grows.longer, res.longer)) (inl in_b2) in
           let sp = split3 bs b2 b3 b4 b5 turns.grows part.grows test.grows h2 in
           let t = turns.does bs sp.0 in
+          let head_at : At bs head filled =
+          record { block = f.at.block; there = h.by head low (omega (arith, f.same_length, g25.longer)) ∙ f.at.there; is = f.at.is } in
           record {
             blocks = record {
               leave = left;
-              left = sealing.lands bs (has_before bs b0 b1 b5 b6 head filled g15 (omega (arith, res.number)) f h);
+              left = sealing.lands bs (has_beside bs b0 b1 f h g15 (omega arith) (inr (omega (arith, res.number))));
               next = turn.next;
               body = head;
               body_spot = spot code;
-              body_at = rw ie at (at_filled bs b0 b5 b6 head filled low (omega (arith, f.same_length, g25.longer)) f h);
+              body_at = rw ie at head_at;
               turn = spot turn.after;
               body_for = part.does bs sp.1;
               last_spot = t.from;

@@ -37,9 +37,8 @@ use Rattle.rtl_emit.proofs.Steps.{goes_one, moves_one, moves_after, with_some, c
 use Rattle.rtl_emit.proofs.Values.{taken, taken_all}
 use Rattle.rtl_lower.specs.Laws.{KeepsRuns}
 use Rattle.rtl_lower.specs.Coded.{enclosing, Sits, put_code, Coded, Receives, IsCodeOf, IsCodeOfProgram}
-use Rattle.rtl_lower.proofs.Spots.{lands_there, comes_join}
 use Rattle.rtl_lower.proofs.Follows.{Fits, Targets, Follows, Stands, Starts, stands_there, starts_there, there_coded, follows_before, follows_all}
-use Rattle.rtl_lower.proofs.Follows.{follows_from, settles}
+use Rattle.rtl_lower.proofs.Follows.{follows_here, follows_from, settles, lands_there, comes_join}
 
 -- the locals that are set are below a number, and in their registers
 pub record Located (n : ℕ) (l r : Places) : Type 0 where
@@ -218,7 +217,8 @@ module _ (src : TypedProgram) (p : Program) (ok : IsCodeOfProgram src p) (well :
         line_of c.entry,
         c.entry_at,
         stands_there src r.blocks.items f.locals (before_all f.body []) 0 None c.entry targets
-            (follows_all src r.blocks.items f.locals f.body [] 0 None c.entry (Line c.after) c.body _ _ fits.body tt),
+            (follows_all src r.blocks.items f.locals f.body [] 0 None c.entry (Line c.after) c.body _ _ fits.body
+            (follows_here src r.blocks.items f.locals [] 0 None (Line c.after) tt)),
       )
 
   -- a call of a function that begins, or is beyond the depth
@@ -367,9 +367,9 @@ module _ (src : TypedProgram) (p : Program) (ok : IsCodeOfProgram src p) (well :
           let left = rest_in c.leave c.left in
           let last_there = there_coded bs n last leave next c.last_spot (Line c.bottom) t c.last_for tt in
           let turn : Follows src bs n (Next last (loop e last body) ∷ k) c.leave c.next c.turn = record {
-            last_spot = c.last_spot;
+            spot = c.last_spot;
             comes = c.is_turn.comes;
-            turn = record {
+            at = record {
               bottom = c.bottom;
               after = after;
               left = c.left;
@@ -417,7 +417,7 @@ module _ (src : TypedProgram) (p : Program) (ok : IsCodeOfProgram src p) (well :
     acts (Do s ∷ k) code stands =
         let f = stands.follows in
         let x = f.comes.by code stands.sits (target w) r in
-        advance_after x.2 (acts_at k stands.leave stands.next f.middle stands.targets f.rest s f.spot x.0 x.1 f.coded f.fits)
+        advance_after x.2 (acts_at k stands.leave stands.next f.at.middle stands.targets f.at.rest s f.spot x.0 x.1 f.at.coded f.at.fits)
     acts _ code stands = advance_failed
 
   -- a step of the source
@@ -430,7 +430,7 @@ module _ (src : TypedProgram) (p : Program) (ok : IsCodeOfProgram src p) (well :
       let top = m.top in
       let w : Around src = record { place = f.result_to; to = a.result_to; waiting = fs; activations = m.ws; stack = m.below; globals = g; output = out } in
       let h : Holds top.count f.locals a.registers g = record { by = top.located.by; locals = All-head FrameHoldsWords f fs words.0; globals = words.1.0 } in
-      let s = settles src (target w) a.blocks top.count a.registers Going f.locals f.todo top.leave top.next top.spot a.code top.sits top.targets
+      let s = settles src a.blocks top.count (target w) a.registers Going f.locals f.todo top.leave top.next top.spot a.code top.sits top.targets
       top.follows h in
       let point = next_point Going f.locals f.todo in
       rw m.is (advance_after s.goes (acts w a.blocks top.count point.locals a.registers s.holds point.todo s.code s.stands))
@@ -448,24 +448,23 @@ module _ (src : TypedProgram) (p : Program) (ok : IsCodeOfProgram src p) (well :
 
   -- both at the start
   starts : MatchRun src (source_start src) (rtl_start p)
-  starts = first_frame (slice_get src.functions src.main) refl
+  starts = first_value _ _ (λ func e.
+      let r = ok.functions src.main func e in
+      let w : Around src = record {
+        place = None;
+        to = None;
+        waiting = [];
+        activations = [];
+        stack = tt;
+        globals = map first_words src.globals;
+        output = [];
+      } in
+      rw (ok.main, r.1, ok.first) (enters_block w 0 (begins src.main func r.0 e r.2) (record { by = λ x v e. absurd (none-some v e) })))
     where
-      first_frame : (o : Option TypedFunction) → slice_get src.functions src.main ≡ o
-          → MatchRun src (with_value o [] (λ func. Running (record { locals = unset_places; todo = before_all func.body []; result_to = None } ∷ [])
-          (map first_words src.globals) [])) (rtl_start p)
-      first_frame None e = tt
-      first_frame (Some func) e =
-          let r = ok.functions src.main func e in
-          let w : Around src = record {
-            place = None;
-            to = None;
-            waiting = [];
-            activations = [];
-            stack = tt;
-            globals = map first_words src.globals;
-            output = [];
-          } in
-          rw (ok.main, r.1, ok.first) (enters_block w 0 (begins src.main func r.0 e r.2) (record { by = λ x v e. absurd (none-some v e) }))
+      first_value : {A : Type 0} (o : Option A) (go : A → Src.Run) → ((v : A) → o ≡ Some v → MatchRun src (go v) (rtl_start p))
+          → MatchRun src (with_value o [] go) (rtl_start p)
+      first_value None go each = tt
+      first_value (Some v) go each = each v refl
 
 same_end : (src : TypedProgram) (s : Src.Run) (t : Blk.Run) → MatchRun src s t → (outcome s).end ≢ Wrong → outcome t ≡ outcome s
 same_end src (Running [] g out) t m ne = absurd m

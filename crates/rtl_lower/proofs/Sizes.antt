@@ -1,17 +1,16 @@
 -- The sizes of lists of statements, taken from the last one on.
-use Rattle.std.proofs.Common.{◌≡◌, ℕ, zero, suc, ◌+◌, ◌-◌, ◌<◌, ◌≤◌, true, false, List, [], ◌∷◌, ◌++◌, Some, None, refl, sym, ◌∙◌, ap}
+use Rattle.std.proofs.Common.{◌≡◌, Bool, ℕ, zero, suc, ◌+◌, ◌-◌, ◌<◌, ◌≤◌, true, false, List, [], ◌∷◌, ◌++◌, Some, None, refl, sym, ◌∙◌, ap}
 use Rattle.std.proofs.Common.{add-one, arith, length, get_or, take, drop, take_all, drop_of_length-le}
 use Rattle.std.specs.Prelude.{slice_get, ◌||◌}
-use Rattle.std.proofs.lemmas.Bool.{or_from}
-use Rattle.std.proofs.lemmas.List.Folds.{list_any_at, list_any-append}
+use Rattle.std.proofs.lemmas.List.Folds.{list_any_at}
 use Rattle.std.specs.List.{list_any}
-use Rattle.std.proofs.lemmas.Option.{none-some, same_Some}
+use Rattle.std.proofs.lemmas.Option.{none-some, same_Some, slice_get-get_or}
 use Rattle.std.proofs.Math.Seq.{take-suc, drop-cons}
 use Rattle.c_typed.specs.declared.tree.TypedStatement.{TypedStatement}
 use Rattle.c_typed.specs.Shape.{statement_of, statements_of}
 use Rattle.c_typed.specs.Trees as Trees
 use Rattle.c_typed.specs.Trees.{TypedStatements, no_statements, more_statements}
-use Rattle.rtl_lower.specs.Sizes.{continues, any_continues, stays, last_stays, statements_blocks, statements_registers, numbers_named_in}
+use Rattle.rtl_lower.specs.Sizes.{continues, any_continues, stays, last_stays}
 
 -- a measure of statements
 abbrev mutual
@@ -44,16 +43,6 @@ any_of all k s lt is e =
 pub take_one : {A : Type 0} (all : List A) (i j : ℕ) (x d : A) → i < length all → j ≡ i + 1 → x ≡ get_or all i d → take j all ≡ take i all ++ x ∷ []
 take_one all i j x d lt ij is = rw (ij, add-one, is) (take-suc all i d lt)
 
-pub none_more : (all : List TypedStatement) (i j : ℕ) (s : TypedStatement) → i < length all → s ≡ get_or all i s → j ≡ i + 1
-    → continues (statement_of s) ≡ false → any_continues (statements_of (take i all)) ≡ false → any_continues (statements_of (take j all)) ≡ false
-none_more all i j s lt is ij f e =
-    rw (take_one all i j s s lt ij is, any_is (take i all ++ s ∷ []), list_any-append (λ s. continues (statement_of s)) (take i all) (s ∷ []))
-    (or_from _ _ (sym (any_is (take i all)) ∙ e) (or_from _ _ f refl))
-
-pub none_all : (all : List TypedStatement) (i : ℕ) → length all ≤ i → any_continues (statements_of (take i all)) ≡ false
-    → any_continues (statements_of all) ≡ false
-none_all all i le e = rw (take_all i all le) at e
-
 -- statements of a list that are done, the last ones
 pub none_left : (all : List TypedStatement) (n : ℕ) → n ≡ length all → statements_of (drop n all) ≡ no_statements
 none_left all n e = ap statements_of (drop_of_length-le all (omega (arith, e)))
@@ -67,39 +56,23 @@ one_left all s done lt is =
     let at : s ≡ get_or all k s = is ∙ ap (λ n. get_or all n s) same in
     ap statements_of (drop-cons all k s (omega (arith, lt)) ∙ ap (λ x. x ∷ drop (suc k) all) (sym at) ∙ ap (λ n. s ∷ drop n all) (sym more))
 
--- a rest takes no more than the whole
-pub rest_blocks : (k : ℕ) (all : List TypedStatement) (n : ℕ) → statements_blocks (statements_of (drop k all)) n ≤ statements_blocks (statements_of all) n
-rest_blocks zero all n = omega arith
-rest_blocks (suc k) [] n = omega arith
-rest_blocks (suc k) (s ∷ all) n = omega (arith, rest_blocks k all n)
-
-pub rest_registers : (k : ℕ) (all : List TypedStatement) (free : ℕ)
-    → statements_registers (statements_of (drop k all)) free ≤ statements_registers (statements_of all) free
-rest_registers zero all free = omega arith
-rest_registers (suc k) [] free = omega arith
-rest_registers (suc k) (s ∷ all) free = omega (arith, rest_registers k all free)
-
-pub rest_numbers : (k : ℕ) (all : List TypedStatement) → numbers_named_in (statements_of (drop k all)) ≤ numbers_named_in (statements_of all)
-rest_numbers zero all = omega arith
-rest_numbers (suc k) [] = omega arith
-rest_numbers (suc k) (s ∷ all) = omega (arith, rest_numbers k all)
+-- a measure of a rest is no more than of the whole
+pub rest_within : (measure : TypedStatements → ℕ) → ((s : Trees.TypedStatement) (rest : TypedStatements) → measure rest ≤ measure (more_statements s rest))
+    → (k : ℕ) (all : List TypedStatement) → measure (statements_of (drop k all)) ≤ measure (statements_of all)
+rest_within measure more zero all = omega arith
+rest_within measure more (suc k) [] = omega arith
+rest_within measure more (suc k) (s ∷ all) =
+    omega (arith, more (statement_of s) (statements_of all), rest_within measure more k all)
 
 -- the last statement of a list, by which code goes on after it
-last_is : (x : TypedStatement) (all : List TypedStatement) → (s : TypedStatement) × (slice_get (x ∷ all) (length (x ∷ all) - 1) ≡ Some s)
-    × (last_stays (statements_of all) (stays (statement_of x)) ≡ stays (statement_of s))
-last_is x [] = (x, refl, refl)
-last_is x (y ∷ all) =
-    let rest = last_is y all in
-    let next : length (x ∷ y ∷ all) - 1 ≡ suc (length (y ∷ all) - 1) = omega arith in
-    (rest.0, rw next rest.1, rest.2)
-
-pub last_of : (v w : List TypedStatement) (s : TypedStatement) → v ≡ w → Some s ≡ slice_get v (length v - 1)
-    → last_stays (statements_of w) true ≡ stays (statement_of s)
-last_of v [] s iv e = absurd (none-some s (sym (rw iv at e)))
-last_of v (x ∷ w) s iv e =
-    let last = last_is x w in
-    last.2 ∙ ap (λ s. stays (statement_of s)) (same_Some last.0 s (sym last.1 ∙ sym (rw iv at e)))
+pub last_of : (v w : List TypedStatement) (b : Bool) (s : TypedStatement) → v ≡ w → Some s ≡ slice_get v (length v - 1)
+    → last_stays (statements_of w) b ≡ stays (statement_of s)
+last_of v [] b s iv e = absurd (none-some s (sym (rw iv at e)))
+last_of v (x ∷ []) b s iv e = ap (λ s. stays (statement_of s)) (same_Some x s (sym (rw iv at e)))
+last_of v (x ∷ y ∷ w) b s iv e =
+    let next : length (x ∷ y ∷ w) - 1 ≡ suc (length (y ∷ w) - 1) = omega arith in
+    last_of (y ∷ w) (y ∷ w) (stays (statement_of x)) s refl (rw (iv, next) at e)
 
 pub last_none : (v w : List TypedStatement) → v ≡ w → None ≡ slice_get v (length v - 1) → last_stays (statements_of w) true ≡ true
 last_none v [] iv e = refl
-last_none v (x ∷ w) iv e = let last = last_is x w in absurd (none-some last.0 (rw iv at e ∙ last.1))
+last_none v (x ∷ w) iv e = absurd (none-some _ ((rw iv at e) ∙ slice_get-get_or (x ∷ w) (length (x ∷ w) - 1) x (omega arith)))

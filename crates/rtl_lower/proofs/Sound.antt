@@ -31,7 +31,6 @@ use Rattle.rtl.specs.declared.block.RBlock.{RBlock}
 use Rattle.rtl.specs.declared.block.RFunc.{RFunc}
 use Rattle.rtl.specs.declared.block.RGlobal.{RGlobal}
 use Rattle.rtl_emit.specs.Sizes.{globals_named, globals_named_in, places_registers}
-use Rattle.rtl_emit.specs.Blocks.{Reserves, Fills}
 use Rattle.rtl_emit.specs.Sound.{Scope, IsSoundInst, IsSoundMaybe, IsSoundExit, AreSound}
 use Rattle.rtl_emit.specs.Expressions.{ArePlaces}
 use Rattle.rtl_emit.specs.declared.place.Place.{Place}
@@ -39,8 +38,7 @@ use Rattle.rtl_lower.specs.Coded.{IsCodeOf, IsGlobalOf, AreCodesOf, AreGlobalsOf
 use Rattle.rtl_lower.specs.Laws.{IsOfSize, AreOfSizes}
 use Rattle.rtl_lower.specs.Sizes.{HaveRoom, function_blocks, function_registers}
 use Rattle.rtl_lower.specs.Sound.{Suits}
-use Rattle.rtl_lower.proofs.Fitted.{expression_numbers, list_numbers}
-use Rattle.rtl_lower.proofs.Functions.{pairs_at, pairs_all}
+use Rattle.rtl_lower.proofs.Functions.{expression_numbers, list_numbers, pairs_at, pairs_all, pairs_length}
 
 -- expressions
 
@@ -92,11 +90,6 @@ pub too_long_at : (gs : List Global) (i : ℕ) (d : Global) → i < length gs �
 too_long_at [] i d lt much le = absurd (omega arith)
 too_long_at (x ∷ gs) zero d lt much le = omega (arith, bytes_more x.width x.length, much, le)
 too_long_at (x ∷ gs) (suc i) d lt much le = too_long_at gs i d (omega arith) much (omega (arith, le))
-
-globals_length : (gs : List Global) (rs : List RGlobal) → AreGlobalsOf gs rs → length rs ≡ length gs
-globals_length [] [] m = refl
-globals_length (g ∷ gs) (r ∷ rs) m = ap suc (globals_length gs rs m.1)
-globals_length _ _ m = absurd m
 
 globals_are : (gs : List Global) (rs : List RGlobal) → AreGlobalsOf gs rs → All (λ (g : Global). 1 ≤ g.length) gs → All IsGlobal rs
 globals_are = pairs_all IsGlobalOf (λ (g : Global). 1 ≤ g.length) IsGlobal
@@ -231,20 +224,9 @@ parts_program parts fs ds rs gs main em ifs ids of_parts of_globals sum well roo
     let callees = callee_of p.functions rs codes in
     let m = callees p.main well.main well.entry in
     record {
-      functions = functions_are p rs callees (length gs) (omega (arith, globals_length p.globals gs globals)) p.functions rs codes well.functions room.registers;
+      functions = functions_are p rs callees (length gs) (omega (arith, pairs_length IsGlobalOf p.globals gs globals)) p.functions rs codes well.functions room.registers;
       globals = globals_are p.globals gs globals well.globals;
       main = record { callee = m.callee; there = ap (λ i. slice_get rs i) em ∙ m.there; takes = m.takes ∙ well.alone };
       blocks_fit = omega (arith, sum, ap (λ fs. sum_by function_blocks (functions_of fs)) ifs, room.blocks);
       words_fit = omega (arith, same_words p.globals gs globals, well.words_fit);
     }
-
--- statements
-
-pub within_filled : {old new : List RBlock} {b : ℕ} {c : Code} {n : ℕ} → Fills old new b c → length new ≤ n → length old ≤ n
-within_filled f le = omega (arith, f.same_length, le)
-
-pub reserved_within : {old new : List RBlock} {b n : ℕ} → Reserves old new b → length new ≤ n → b < n
-reserved_within r le = omega (arith, r.number, r.longer, le)
-
-pub some_within : {old new : List RBlock} {b n : ℕ} → Reserves old new b → length new ≤ n → 0 < n
-some_within r le = omega (arith, r.longer, le)

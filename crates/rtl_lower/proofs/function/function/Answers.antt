@@ -1,4 +1,4 @@
-use Rattle.std.proofs.Common.{ap, arith, subst, sym}
+use Rattle.std.proofs.Common.{◌<◌, ap, arith, subst, sym}
 use Rattle.std.specs.Prelude.{false, is_some, None}
 use Rattle.c_typed.specs.Shape.{function_of, statements_of}
 use Rattle.c_typed.specs.Trees.{TypedStatements}
@@ -8,7 +8,7 @@ use Rattle.rtl_emit.proofs.Sound.{sound_along, sound_exit, sound_line}
 use Rattle.rtl_emit.specs.Blocks.{insts_in, insts_of, spot}
 use Rattle.rtl_emit.proofs.Blocks.{line_insts, within}
 use Rattle.rtl_lower.specs.Sizes.{statements_registers}
-use Rattle.rtl_lower.proofs.Sound.{fewer, some_within, within_filled}
+use Rattle.rtl_lower.proofs.Sound.{fewer}
 use Rattle.rtl_lower.proofs.Functions.{function_code}
 use Rattle.rtl_lower.proofs.function.function.Goals as goal
 
@@ -20,8 +20,8 @@ returns-clause-code c =
     (let filled = ap insts_of c.open_block.ensures in let end = ap insts_of c.exit_block.ensures in let line = line_insts (spot c.in_ok-code.code) in
     omega (arith, c.in_ok-entry.ensures.insts, ap insts_in c.in_ok-blocks.ensures.items, c.in_ok-code.ensures.sound.2, filled, line, end, c.fill.ensures.insts))
     (λ p s su fits le.
-    let n = within_filled c.fill.ensures.fills le in
-    let some = some_within c.in_ok-entry.ensures.reserves (within c.in_ok-code.ensures.grows n) in
+    let n = rw c.fill.ensures.fills.same_length at le in
+    let some : 0 < s.blocks = omega (arith, c.in_ok-entry.ensures.reserves.longer, within c.in_ok-code.ensures.grows n) in
     let g = c.in_ok-entry.ensures.sound s (rw c.in_ok-blocks.ensures.items tt) in
     let body = subst (λ (b : TypedStatements). FitsStatements p c.args.f.now.locals (is_some c.args.f.now.result) false b)
     (sym (ap statements_of c.as_slice.ensures.value))

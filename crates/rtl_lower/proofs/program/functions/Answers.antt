@@ -3,8 +3,7 @@ use Rattle.c_typed.specs.Shape.{function_of, functions_of}
 use Rattle.rtl_emit.specs.declared.fault.LowerFault.TheVariants.{Limit}
 use Rattle.rtl_lower.specs.Coded.{IsCodeOf}
 use Rattle.rtl_lower.specs.Sizes.{IsPlain, HaveRoom}
-use Rattle.rtl_lower.proofs.Functions.{one_pair}
-use Rattle.rtl_lower.proofs.Fitted.{each_at, functions_more, one_fitted, too_large}
+use Rattle.rtl_lower.proofs.Functions.{one_pair, each_at, functions_more, one_fitted, too_large}
 use Rattle.rtl_lower.proofs.program.functions.Goals as goal
 
 pub loop-f-preserved : goal.loop-f-preserved

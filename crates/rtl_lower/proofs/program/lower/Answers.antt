@@ -1,8 +1,7 @@
 use Rattle.std.proofs.Common.{◌∙◌, ap}
 use Rattle.c_types.specs.Shape.{program_of}
 use Rattle.rtl.specs.Programs.{Program}
-use Rattle.rtl_lower.proofs.Functions.{program_made}
-use Rattle.rtl_lower.proofs.Fitted.{plain_functions, room_of}
+use Rattle.rtl_lower.proofs.Functions.{program_made, plain_functions, room_of}
 use Rattle.rtl_lower.proofs.Sound.{parts_program, sizes_are}
 use Rattle.rtl_lower.proofs.program.lower.Goals as goal
 

@@ -8,7 +8,7 @@ use Rattle.rtl_lower.proofs.shape.+stays.Goals as goal
 pub returns-in-Some : goal.returns-in-Some
 returns-in-Some t c =
     let is = ap statement_of c.in-Block.is ∙ block-is c.in-Block.all in
-    c.stays.ensures ∙ sym (ap Sizes.stays is ∙ last_of _ _ _ c.as_slice.ensures.value c.in-Some.ensures.value)
+    c.stays.ensures ∙ sym (ap Sizes.stays is ∙ last_of _ _ _ _ c.as_slice.ensures.value c.in-Some.ensures.value)
 
 pub returns-in-None : goal.returns-in-None
 returns-in-None t c =

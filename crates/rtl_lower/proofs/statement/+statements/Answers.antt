@@ -5,13 +5,14 @@ use Rattle.c_typed.specs.Trees.{block, call, if_else, loop}
 use Rattle.c_typed.proofs.Shapes.{block-is}
 use Rattle.rtl_emit.specs.Blocks.{spot}
 use Rattle.rtl_emit.specs.Sizes.{joint, condition_blocks}
-use Rattle.rtl_emit.proofs.Emitting.{part_refused, grows_same}
+use Rattle.rtl_emit.proofs.Blocks.{grows_then}
+use Rattle.rtl_emit.proofs.Emitting.{part_refused, refused, stopped, grows_same}
 use Rattle.rtl_lower.specs.Emits.{made_of}
-use Rattle.rtl_lower.specs.Sizes.{continues}
+use Rattle.rtl_lower.specs.Sizes.{continues, statement_blocks, statement_joint}
 use Rattle.rtl_lower.proofs.Sizes.{any_of, weight, weight_within, none_left, one_left}
-use Rattle.rtl_lower.proofs.Emitting.{nothing_emits, break_emits, continue_emits, simple_emits, none_emits}
+use Rattle.rtl_lower.proofs.Emitting.{emitted, nothing_emits, simple_emits}
 use Rattle.rtl_lower.proofs.Emitting.{more_emits, list_stopped, side_emits, if_is, if_emits, turn_emits, loop_is, loop_emits, sealed}
-use Rattle.rtl_lower.proofs.Emitting.{join_stops, if_second_stops, loop_head_stops, loop_turn_stops, loop_body_stops, loop_top_stops}
+use Rattle.rtl_lower.proofs.Emitting.{loop_turn_stops, loop_body_stops, loop_top_stops}
 use Rattle.rtl_lower.proofs.statement.+statements.Goals as goal
 
 pub statement-returns-in-Empty : goal.statement-returns-in-Empty
@@ -51,10 +52,14 @@ statement-returns-in-Loop t c =
     rw (c.continuation_of-in-Loop.ensures, is) c.loop_statement.ensures
 
 pub statement-returns-in-Break : goal.statement-returns-in-Break
-statement-returns-in-Break t c = break_emits _ _ c.args.context (spot c.args.after) (ap statement_of c.in-Break.is)
+statement-returns-in-Break t c =
+    rw (ap statement_of c.in-Break.is)
+    (emitted _ (grows_same _) (omega arith) (omega arith) (refl, λ p n gives inside f s l g h. (g, h.1.0), omega arith) (λ bs h. refl))
 
 pub statement-returns-in-Some : goal.statement-returns-in-Some
-statement-returns-in-Some t c = continue_emits _ _ c.args.context _ (spot c.args.after) (ap statement_of c.in-Continue.is) c.in-Some.is
+statement-returns-in-Some t c =
+    rw (ap statement_of c.in-Continue.is) (emitted _ (grows_same _) (omega arith) (omega arith)
+    (refl, λ p n gives inside f s l g h. (g, rw c.in-Some.is at h.1.1.0), omega arith) (λ bs h. (c.in-Some.block, c.in-Some.is, refl)))
 
 pub statement-returns-in-Return : goal.statement-returns-in-Return
 statement-returns-in-Return t c =
@@ -91,7 +96,9 @@ statements-returns t c =
     rw none at c.loop-done.invariant
 
 pub statements-loop-done-init : goal.statements-loop-done-init
-statements-loop-done-init t c = none_emits _ _ c.args.context c.args.after (none_left c.args.all.now _ (omega arith))
+statements-loop-done-init t c =
+    rw (none_left c.args.all.now (length c.args.all.now - 0) (omega arith)) (emitted _ (grows_same _) (omega arith) (omega arith)
+    (refl, λ p n gives inside f s l g h. (g, h.1.1.1), omega arith) (λ bs h. refl))
 
 pub statements-loop-done-preserved : goal.statements-loop-done-preserved
 statements-loop-done-preserved t c =
@@ -123,8 +130,8 @@ side_block-returns-in_err-code t c = part_refused 0 c.in_err-code.ensures (searc
 
 pub if_statement-returns-in_err-join : goal.if_statement-returns-in_err-join
 if_statement-returns-in_err-join t c =
-    join_stops (if_else (typed_expression_of c.args.test.now) (statement_of c.args.yes.now) (statement_of c.args.no.now)) c.args.context
-    (spot c.args.after) (search rules) c.in_err-join.ensures.left (omega arith) c.in_err-join.ensures.limit
+    let is : c.from_residual.result ≡ Err c.in_err-join.field-0.0 = search rules in
+    refused _ (ap made_of is) c.in_err-join.ensures.left (λ l. omega (arith, c.in_err-join.ensures.limit l))
 
 pub if_statement-returns-in_err-yes_block : goal.if_statement-returns-in_err-yes_block
 if_statement-returns-in_err-yes_block t c =
@@ -135,8 +142,10 @@ if_statement-returns-in_err-yes_block t c =
 pub if_statement-returns-in_err-no_block : goal.if_statement-returns-in_err-no_block
 if_statement-returns-in_err-no_block t c =
     let join = c.in_ok-join.ensures in
-    if_second_stops _ _ _ c.args.context (search rules) (sealed (spot c.args.after) join.grows join.count join.insts join.sound join.lands)
-    c.in_ok-yes_block.ensures c.in_err-no_block.ensures
+    let yes = c.in_ok-yes_block.ensures in
+    let is : c.from_residual-in_err-no_block.result ≡ Err c.in_err-no_block.field-0.0 = search rules in
+    part_refused (joint (spot c.args.after) + (statement_blocks (statement_of c.args.yes.now) 0 + statement_joint (statement_of c.args.yes.now) 0)) c.in_err-no_block.ensures (ap made_of is)
+    (omega arith) (omega arith) (omega arith) (grows_then _ _ _ join.grows yes.grows) (omega (arith, join.count, yes.count))
 
 pub turn_of-returns-in_err-bottom : goal.turn_of-returns-in_err-bottom
 turn_of-returns-in_err-bottom t c = part_refused 0 c.in_err-bottom.ensures (search rules) (omega arith) (omega arith) (omega arith) (grows_same _)
@@ -150,14 +159,14 @@ turn_of-returns-in_err-code t c =
 
 pub loop_statement-returns-in_err-left : goal.loop_statement-returns-in_err-left
 loop_statement-returns-in_err-left t c =
-    join_stops (loop (typed_expression_of c.args.test.now) (statement_of c.args.last.now) (statement_of c.args.body.now)) c.args.context
-    (spot c.args.after) (search rules) c.in_err-left.ensures.left (omega arith) c.in_err-left.ensures.limit
+    let is : c.from_residual.result ≡ Err c.in_err-left.field-0.0 = search rules in
+    refused _ (ap made_of is) c.in_err-left.ensures.left (λ l. omega (arith, c.in_err-left.ensures.limit l))
 
 pub loop_statement-returns-in_err-head : goal.loop_statement-returns-in_err-head
 loop_statement-returns-in_err-head t c =
-    let join = c.in_ok-left.ensures in
-    loop_head_stops _ _ _ c.args.context (search rules) (sealed (spot c.args.after) join.grows join.count join.insts join.sound join.lands)
-    c.in_err-head.ensures.left c.in_err-head.ensures.limit
+    let is : c.from_residual-in_err-head.result ≡ Err c.in_err-head.field-0.0 = search rules in
+    stopped _ (ap made_of is) (rw c.in_err-head.ensures.left c.in_ok-left.ensures.grows)
+    (λ l. omega (arith, c.in_err-head.ensures.limit l, c.in_ok-left.ensures.count))
 
 pub loop_statement-returns-in_err-turn : goal.loop_statement-returns-in_err-turn
 loop_statement-returns-in_err-turn t c =
