@@ -180,17 +180,6 @@ output_emits old mid new e free b p next end after r sealing pl room fe o =
 
 -- calls
 
-pub nowhere_emits : {old new : List RBlock} {to : Option Destination} {b : ℕ} {after : Spot} (free : ℕ) → to ≡ None → Sealing old new b after
-    → Emits (receiver to free after) old new (Ok (record { to = None; block = b }))
-nowhere_emits free it sealing = rw it (emitted _ sealing.grows sealing.count (omega arith)
-    (λ p n f s l g h. let j = sealing.sound s l g h.1 in (j.0, (tt, j.1)), omega (arith, sealing.insts)) (λ bs h. (refl, sealing.lands bs h)))
-
-pub to_local_emits : {old new : List RBlock} {to : Option Destination} {x local b : ℕ} {after : Spot} (free : ℕ) → to ≡ Some (Local x) → local ≡ x
-    → local < MAX_REGISTERS → Sealing old new b after → Emits (receiver to free after) old new (Ok (record { to = Some local; block = b }))
-to_local_emits {local = local} free it il lt sealing = rw (it, ← il) (emitted _ sealing.grows sealing.count (omega (arith, lt))
-    (λ p n f s l g h. let j = sealing.sound s l g h.1 in (j.0, (omega (arith, h.0.registers_fit), j.1)), omega (arith, sealing.insts))
-    (λ bs h. (refl, sealing.lands bs h)))
-
 pub to_variable_emits : {old new : List RBlock} {to : Option Destination} {x g t z b : ℕ} (free : ℕ) (last code : OpenBlock) (after : Spot)
     → to ≡ Some (Variable x) → g ≡ x → t ≡ free → t < MAX_REGISTERS → z ≡ t + 1 → z < MAX_REGISTERS
     → open_code last ≡ first (I.Store g z t) (line_of after)
@@ -249,11 +238,6 @@ call_emits old mid new to f f' es free x places0 places ps1 ps2 args end after r
 
 -- returns
 
-pub nothing_returned : (old : List RBlock) (given : Option TypedExpression) (free : ℕ) (code : OpenBlock) (after : Spot) → given ≡ None
-    → open_code code ≡ exit_code (X.Return None) → Emits (simple_code (return_with given) free after) old old (Ok code)
-nothing_returned old given free code after ig fe = rw ig (emitted _ (grows_same old) (omega arith) (omega arith)
-    (λ p n gives inside f s l g h. (g, sound_exit _ fe tt), omega (arith, ap insts_of fe)) (λ bs h leave next. ap Line fe))
-
 pub value_returned : (old new : List RBlock) (given : Option TypedExpression) (e : TypedExpression) (free p next : ℕ) (end : OpenBlock) (after : Spot)
     (r : Result OpenBlock LowerFault) → given ≡ Some e → IsPlace e free p next → place_registers e free ≤ MAX_REGISTERS
     → open_code end ≡ exit_code (X.Return (Some p)) → Emits (operand e p free end) old new r → Emits (simple_code (return_with given) free after) old new r
@@ -265,15 +249,6 @@ value_returned old new given e free p next end after r ig pl room fe o = rw ig (
       omega (arith, keeps.1, ap insts_of fe),
     ))
     (λ from does bs h leave next'. fetches_first from pl (finds_to fe (does bs h))))
-
--- statements that are no code of their own
-
-pub nothing_emits : (old : List RBlock) (s : Tree.TypedStatement) (c : Context) (after : Continuation)
-    → (s ≡ Tree.Empty) ⊎ ((x : ℕ) × s ≡ Tree.Unset x) → Emits (statement_code (statement_of s) c (spot after)) old old (Ok after)
-nothing_emits old s c after (inl is) = rw is (emitted _ (grows_same old) (omega arith) (omega arith)
-    (refl, λ p n gives inside f s l g h. (g, h.1.1.1), omega arith) (λ bs h. refl))
-nothing_emits old s c after (inr is) = rw is.1 (emitted _ (grows_same old) (omega arith) (omega arith)
-    (refl, λ p n gives inside f s l g h. (g, h.1.1.1), omega arith) (λ bs h. refl))
 
 -- lists of statements
 
@@ -303,9 +278,6 @@ list_stopped all k c after ir e =
     (rest_within numbers_named_in (λ s l. omega arith) k all) (grows_same _) (omega arith)
 
 -- `if`
-
-pub if_is : {s : TypedStatement} {e : TypedExpression} {a b a' b' : TypedStatement} → s ≡ if_else e a b → a' ≡ a → b' ≡ b → s ≡ if_else e a' b'
-if_is is ia ib = rw (ia, ib) is
 
 pub side_emits : (old mid new : List RBlock) (s : TypedStatement) (c : Context) (join : ℕ) (code : Continuation) (r : Result ℕ LowerFault)
     → Emits (statement_code s c (Block join)) old mid (Ok code) → Grows mid new → OnOk r (length new ≡ length mid + joint (spot code))
@@ -364,18 +336,10 @@ if_emits {b0} {b1} {b2} {b3} {b4} {join} {y} {n} {likely} {after} {r} e a b c il
 
 -- loops
 
-pub loop_is : {s : TypedStatement} {e : TypedExpression} {a b a' b' : TypedStatement} → s ≡ loop e a b → a' ≡ a → b' ≡ b → s ≡ loop e a' b'
-loop_is is ia ib = rw (ia, ib) is
-
 pub block_ends : {old new : List RBlock} {many : Bool} {last : Spot} {b : ℕ} → many ≡ true → Sealing old new b last
     → Emits (end_of_turn many last) old new (Ok (record { next = Some b; after = Jump b }))
 block_ends {old} {new} {many} {last} {b} im sealing = rw im (emitted _ sealing.grows sealing.count (omega arith)
     ((refl, refl), λ s l g h. let j = sealing.sound s l g h in (j.0, (j.1, j.1)), omega (arith, sealing.insts)) (λ bs h. record { comes = comes_join bs b last (sealing.lands bs h); continues = λ b' e. (let is : b ≡ b' = cc in rw (← is) (sealing.lands bs h)) }))
-
-pub line_ends : (old : List RBlock) (many : Bool) (last : Continuation) → many ≡ false
-    → Emits (end_of_turn many (spot last)) old old (Ok (record { next = None; after = last }))
-line_ends old many last im = rw im (emitted _ (grows_same old) (omega arith) (omega arith) ((refl, refl), λ s l g h. (g, (tt, h)), omega arith)
-    (λ bs h. record { comes = comes_equal bs (spot last) (spot last) refl; continues = λ b e. cc }))
 
 pub turn_emits : {b0 b1 b2 b3 : List RBlock} {bottom : OpenBlock} {code : Continuation} {r : Result Turn LowerFault} (e : TypedExpression)
     (last : TypedStatement) (c : Context) (many : Bool) (again : Targets) → Emits (condition_branch e again c.free) b0 b1 (Ok bottom)
@@ -408,89 +372,59 @@ again head left = record { yes = head; no = left; likely = true }
 abbrev inside_of : Context → (left : ℕ) → Turn → Context
 inside_of c left turn = record { alloc = c.alloc; free = c.free; leave = left; next = turn.next }
 
--- a loop whose blocks before its turn are there
-module _ {b0 b1 b2 : List RBlock} {left head : ℕ} {after : Spot} (e : TypedExpression) (last body : TypedStatement) (c : Context)
-    (sealing : Sealing b0 b1 left after) (res : Reserves b1 b2 head) where
-  pub loop_turn_stops : {b3 : List RBlock} {f : LowerFault} {r : Result OpenBlock LowerFault} → r ≡ Err f
-      → Emits (last_code e last c (continues body) (again head left)) b2 b3 (Err f) → Emits (statement_code (loop e last body) c after) b0 b3 (made_of r)
-  loop_turn_stops is turn =
-      part_refused (joint after + 1) turn (ap made_of is) (omega arith) (omega arith) (omega arith)
-      (grows_then b0 b1 b2 sealing.grows res.grows) (omega (arith, sealing.count, res.longer))
-
-  -- and its turn
-  module _ {b3 : List RBlock} {turn : Turn} (turns : Emits (last_code e last c (continues body) (again head left)) b2 b3 (Ok turn)) where
-    body_blocks : statement_blocks body (joint (spot turn.after)) ≡ statement_blocks body (if continues body then 0 else statement_joint last 1)
-    body_blocks = ap (statement_blocks body) turns.sound.0.1
-
-    turn_grows : Grows b0 b3
-    turn_grows = grows_then b0 b1 b3 sealing.grows (grows_then b1 b2 b3 res.grows turns.grows)
-
-    turn_count : length b3 ≡ length b0 + (joint after + 1 + (last_size e last (continues body) true c.free).blocks)
-    turn_count = omega (arith, sealing.count, res.longer, turns.count)
-
-    pub loop_body_stops : {b4 : List RBlock} {f : LowerFault} {r : Result OpenBlock LowerFault} → r ≡ Err f
-        → Emits (statement_code body (inside_of c left turn) (spot turn.after)) b3 b4 (Err f) → Emits (statement_code (loop e last body) c after) b0 b4 (made_of r)
-    loop_body_stops is part = part_refused (joint after + 1 + (last_size e last (continues body) true c.free).blocks) part
-        (ap made_of is) (omega arith) (omega (arith, body_blocks)) (omega arith) turn_grows turn_count
-
-    -- and its body
-    module _ {b4 b5 : List RBlock} {code : Continuation} (part : Emits (statement_code body (inside_of c left turn) (spot turn.after)) b3 b4 (Ok code)) where
-      pub loop_top_stops : {f : LowerFault} {r : Result OpenBlock LowerFault} → r ≡ Err f
-          → Emits (condition_branch e (again head left) c.free) b4 b5 (Err f) → Emits (statement_code (loop e last body) c after) b0 b5 (made_of r)
-      loop_top_stops is test =
-          part_refused (joint after + 1 + (last_size e last (continues body) true c.free).blocks + statement_blocks body (joint (spot turn.after))) test
-          (ap made_of is) (omega arith) (omega (arith, body_blocks)) (omega arith)
-          (grows_then b0 b3 b4 turn_grows part.grows) (omega (arith, turn_count, part.count))
-
-      pub loop_emits : {b6 : List RBlock} {top : OpenBlock} {filled : Code} → insts_in b2 ≡ insts_in b1
-          → ((s : Scope) → AreSound s b1 → AreSound s b2) → Emits (condition_branch e (again head left) c.free) b4 b5 (Ok top)
-          → filled ≡ line_of (spot code) → Fills b5 b6 head filled → insts_in b6 ≤ insts_in b5 + insts_of filled
-          → ((s : Scope) → AreSound s b5 → IsSound s filled → AreSound s b6)
-          → Emits (statement_code (loop e last body) c after) b0 b6 (Ok (Made top))
-      loop_emits {b6} {top} {filled} i2 kept test ie f i6 sound =
-          let g25 = grows_then b2 b3 b5 turns.grows (grows_then b3 b4 b5 part.grows test.grows) in
-          let g15 = grows_then b1 b2 b5 res.grows g25 in
-          let low : length b0 ≤ head = omega (arith, sealing.grows.longer, res.number) in
-          let in_b2 : head < length b2 = omega (arith, res.number, res.longer) in
-          emitted (Made top) (grows_filled b0 b5 b6 head filled (grows_then b0 b1 b5 sealing.grows g15) low f)
-          (omega (arith, turn_count, part.count, test.count, body_blocks, f.same_length)) (omega (arith, turns.room, part.room)) (
-            refl,
-            λ p n gives inside f' s l g h.
-                let l5 : length b5 ≤ s.blocks = omega (arith, f.same_length, l) in
-                let l4 = within test.grows l5 in
-                let l3 = within part.grows l4 in
-                let l2 = within turns.grows l3 in
-                let j = sealing.sound s (within res.grows l2) g h.1.1.1 in
-                let at : head < s.blocks = omega (arith, res.number, res.longer, l2) in
-                let x = turns.sound.1 p n gives f'.0 f'.1.0 s l3 (kept s j.0) (fewer h.0 (omega arith), (h.1.0, (h.1.1.0, (at, j.1)))) in
-                let y = part.sound.1 p n gives true f'.1.1 s l4 x.0 (fewer h.0 (omega arith), (j.1, x.1)) in
-                let z = test.sound.0 s l5 y.0 ((omega (arith, h.0.registers_fit), named p s n e h.0 f'.0), (at, j.1)) in
-                (sound s z.0 (sound_along ie (sound_line _ y.1)), z.1),
-            omega (arith, turns.sound.2, part.sound.2, test.sound.1, ap insts_of ie, line_insts (spot code), i2, i6, sealing.insts),
-          )
-          (λ bs h.
-          let h2 = has_beside bs b2 b5 f h (grows_same b5) (omega (arith, sealing.grows.longer, res.longer)) (inl in_b2) in
-          let sp = split3 bs b2 b3 b4 b5 turns.grows part.grows test.grows h2 in
-          let t = turns.does bs sp.0 in
-          let head_at : At bs head filled =
-          record { block = f.at.block; there = h.by head low (omega (arith, f.same_length, g25.longer)) ∙ f.at.there; is = f.at.is } in
-          record {
-            blocks = record {
-              leave = left;
-              left = sealing.lands bs (has_beside bs b0 b1 f h g15 (omega arith) (inr (omega (arith, res.number))));
-              next = turn.next;
-              body = head;
-              body_spot = spot code;
-              body_at = rw ie at head_at;
-              turn = spot turn.after;
-              body_for = part.does bs sp.1;
-              last_spot = t.from;
-              is_turn = t.is_turn;
-              bottom = t.bottom;
-              last_for = t.coded;
-              again = t.test;
-            };
-            top = open_code top;
-            is = refl;
-            test = test.does bs sp.2;
-          })
+-- a loop whose first block is filled last
+pub loop_emits : {b0 b1 b2 b3 b4 b5 b6 : List RBlock} {left head : ℕ} {after : Spot} {turn : Turn} {code : Continuation} {top : OpenBlock}
+    {filled : Code} (e : TypedExpression) (last body : TypedStatement) (c : Context) → Sealing b0 b1 left after → Reserves b1 b2 head
+    → Emits (last_code e last c (continues body) (again head left)) b2 b3 (Ok turn)
+    → Emits (statement_code body (inside_of c left turn) (spot turn.after)) b3 b4 (Ok code) → insts_in b2 ≡ insts_in b1
+    → ((s : Scope) → AreSound s b1 → AreSound s b2) → Emits (condition_branch e (again head left) c.free) b4 b5 (Ok top)
+    → filled ≡ line_of (spot code) → Fills b5 b6 head filled → insts_in b6 ≤ insts_in b5 + insts_of filled
+    → ((s : Scope) → AreSound s b5 → IsSound s filled → AreSound s b6) → Emits (statement_code (loop e last body) c after) b0 b6 (Ok (Made top))
+loop_emits {b0} {b1} {b2} {b3} {b4} {b5} {b6} {left} {head} {turn = turn} {code} {top} {filled} e last body c sealing res turns part i2 kept test ie f i6 sound =
+    let g25 = grows_then b2 b3 b5 turns.grows (grows_then b3 b4 b5 part.grows test.grows) in
+    let g15 = grows_then b1 b2 b5 res.grows g25 in
+    let low : length b0 ≤ head = omega (arith, sealing.grows.longer, res.number) in
+    let in_b2 : head < length b2 = omega (arith, res.number, res.longer) in
+    emitted (Made top) (grows_filled b0 b5 b6 head filled (grows_then b0 b1 b5 sealing.grows g15) low f)
+    (omega (arith, sealing.count, res.longer, turns.count, part.count, test.count, ap (statement_blocks body) turns.sound.0.1, f.same_length))
+    (omega (arith, turns.room, part.room)) (
+      refl,
+      λ p n gives inside f' s l g h.
+          let l5 : length b5 ≤ s.blocks = omega (arith, f.same_length, l) in
+          let l4 = within test.grows l5 in
+          let l3 = within part.grows l4 in
+          let l2 = within turns.grows l3 in
+          let j = sealing.sound s (within res.grows l2) g h.1.1.1 in
+          let at : head < s.blocks = omega (arith, res.number, res.longer, l2) in
+          let x = turns.sound.1 p n gives f'.0 f'.1.0 s l3 (kept s j.0) (fewer h.0 (omega arith), (h.1.0, (h.1.1.0, (at, j.1)))) in
+          let y = part.sound.1 p n gives true f'.1.1 s l4 x.0 (fewer h.0 (omega arith), (j.1, x.1)) in
+          let z = test.sound.0 s l5 y.0 ((omega (arith, h.0.registers_fit), named p s n e h.0 f'.0), (at, j.1)) in
+          (sound s z.0 (sound_along ie (sound_line _ y.1)), z.1),
+      omega (arith, turns.sound.2, part.sound.2, test.sound.1, ap insts_of ie, line_insts (spot code), i2, i6, sealing.insts),
+    )
+    (λ bs h.
+    let h2 = has_beside bs b2 b5 f h (grows_same b5) (omega (arith, sealing.grows.longer, res.longer)) (inl in_b2) in
+    let sp = split3 bs b2 b3 b4 b5 turns.grows part.grows test.grows h2 in
+    let t = turns.does bs sp.0 in
+    let head_at : At bs head filled =
+    record { block = f.at.block; there = h.by head low (omega (arith, f.same_length, g25.longer)) ∙ f.at.there; is = f.at.is } in
+    record {
+      blocks = record {
+        leave = left;
+        left = sealing.lands bs (has_beside bs b0 b1 f h g15 (omega arith) (inr (omega (arith, res.number))));
+        next = turn.next;
+        body = head;
+        body_spot = spot code;
+        body_at = rw ie at head_at;
+        turn = spot turn.after;
+        body_for = part.does bs sp.1;
+        last_spot = t.from;
+        is_turn = t.is_turn;
+        bottom = t.bottom;
+        last_for = t.coded;
+        again = t.test;
+      };
+      top = open_code top;
+      is = refl;
+      test = test.does bs sp.2;
+    })

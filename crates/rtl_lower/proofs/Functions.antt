@@ -1,6 +1,6 @@
 -- From functions to a program: their sizes, what a well-formed program keeps, and the code of each.
 use Rattle.std.proofs.Common.{◌≡◌, ◌≢◌, ℕ, zero, suc, ◌+◌, ◌≤◌, List, [], ◌∷◌, ◌++◌, Some, None, refl, ◌∙◌, ap, subst, arith, length, ◌<◌}
-use Rattle.std.proofs.Common.{Bool, true, false, Option, sym, get_or, take}
+use Rattle.std.proofs.Common.{◌*◌, sum, Bool, true, false, Option, sym, get_or, take}
 use Rattle.std.specs.Prelude.{All, slice_get, map, replicate, sum_by, is_some}
 use Rattle.std.proofs.lemmas.List.{length-map, length-replicate, get_or-map, map_push}
 use Rattle.std.proofs.lemmas.List.Elements.{All-nil, All-cons, All-head, All-tail, All-push}
@@ -32,7 +32,7 @@ use Rattle.rtl_lower.specs.Sound.{Suits}
 use Rattle.rtl_lower.specs.Laws.{KeepsRuns}
 use Rattle.rtl_lower.specs.Coded.{enclosing, CodedAll, IsCodeOf, IsGlobalOf, ArePairs, AreCodesOf, AreGlobalsOf}
 use Rattle.rtl_lower.proofs.Simulation.{keeps_runs}
-use Rattle.std.proofs.lemmas.List.Sums.{get_or-le-sum_by, sum_by_push}
+use Rattle.std.proofs.lemmas.List.Sums.{get_or-le-sum_by, sum-map}
 use Rattle.std.proofs.lemmas.Bool.{or_from}
 use Rattle.std.proofs.lemmas.Option.{slice_get_within}
 use Rattle.words.specs.declared.width.Width.TheVariants.{Word, Byte}
@@ -48,43 +48,28 @@ functions_is : (all : List Function) → functions_of all ≡ map function_of al
 functions_is [] = refl
 functions_is (f ∷ all) = ap (λ l. function_of f ∷ l) (functions_is all)
 
-functions_at : (all : List Function) (i : ℕ) (d : Function) → i < length all → get_or (functions_of all) i (function_of d) ≡ function_of (get_or all i d)
-functions_at all i d lt = rw (functions_is all) (get_or-map function_of all i d (function_of d) lt)
+pub one_of : (all : List Function) (i : ℕ) (f : Function) → i < length all → f ≡ get_or all i f
+    → (i < length (functions_of all)) × (get_or (functions_of all) i (function_of f) ≡ function_of f)
+one_of all i f lt is = rw (functions_is all)
+    (omega (arith, lt, length-map all function_of), get_or-map function_of all i f (function_of f) lt ∙ ap function_of (sym is))
 
-functions_length : (all : List Function) → length (functions_of all) ≡ length all
-functions_length all = rw (functions_is all) (length-map all function_of)
-
-pub each_at : (P : TypedFunction → Type 0) (all : List Function) (i : ℕ) (d : Function) → i < length all → All P (functions_of all)
-    → P (function_of (get_or all i d))
-each_at P all i d lt a = subst P (functions_at all i d lt) (a i (function_of d) (omega (arith, lt, functions_length all)))
+pub each_at : (P : TypedFunction → Type 0) (all : List Function) (i : ℕ) (f : Function) → i < length all → f ≡ get_or all i f → All P (functions_of all)
+    → P (function_of f)
+each_at P all i f lt is a = let one = one_of all i f lt is in subst P one.1 (a i (function_of f) one.0)
 
 -- a function that is beyond puts the program beyond
 pub too_large : (all : List Function) (i : ℕ) (f : Function) → i < length all → f ≡ get_or all i f
     → Beyond (function_registers (function_of f)) (function_blocks (function_of f)) 0 → HaveRoom (functions_of all) → ⊥
 too_large all i f lt is b room =
-    let same : get_or (functions_of all) i (function_of f) ≡ function_of f = functions_at all i f lt ∙ ap function_of (sym is) in
-    let inside : i < length (functions_of all) = omega (arith, lt, functions_length all) in
-    let registers = subst (λ f. function_registers f ≤ MAX_REGISTERS) same (room.registers i (function_of f) inside) in
-    omega (arith, b, registers, get_or-le-sum_by function_blocks (functions_of all) i (function_of f) inside, ap function_blocks same, room.blocks)
-
--- functions that are emitted
-pub record Fitted (fs : List TypedFunction) (rs : List RFunc) : Type 0 where
-  pub blocks : sum_by block_count rs ≡ sum_by function_blocks fs
-  pub registers : All (λ f. function_registers f ≤ MAX_REGISTERS) fs
+    let one = one_of all i f lt is in
+    let registers = each_at (λ f. function_registers f ≤ MAX_REGISTERS) all i f lt is room.registers in
+    omega (arith, b, registers, get_or-le-sum_by function_blocks (functions_of all) i (function_of f) one.0, ap function_blocks one.1, room.blocks)
 
 -- the functions up to one, and that one
 pub functions_more : (all : List Function) (i : ℕ) (f : Function) → i < length all → f ≡ get_or all i f
     → functions_of (take (i + 1) all) ≡ functions_of (take i all) ++ function_of f ∷ []
 functions_more all i f lt is =
     rw (functions_is (take (i + 1) all), functions_is (take i all), take_one all i (i + 1) f f lt refl is) (map_push function_of (take i all) f)
-
-pub one_fitted : (all : List Function) (rs rs' : List RFunc) (i : ℕ) (f : Function) (r : RFunc) → rs' ≡ rs ++ r ∷ [] → i < length all → f ≡ get_or all i f
-    → length r.blocks.items ≡ function_blocks (function_of f) → function_registers (function_of f) ≤ MAX_REGISTERS
-    → Fitted (functions_of (take i all)) rs → Fitted (functions_of (take (i + 1) all)) rs'
-one_fitted all rs rs' i f r e lt is eb room m = rw (functions_more all i f lt is, e) (record {
-  blocks = omega (arith, sum_by_push block_count rs r, sum_by_push function_blocks (functions_of (take i all)) (function_of f), m.blocks, eb);
-  registers = All-push (λ f. function_registers f ≤ MAX_REGISTERS) (functions_of (take i all)) (function_of f) m.registers room;
-})
 
 -- functions whose blocks fit together
 pub room_of : (fs : List TypedFunction) (rs : List RFunc) → sum_by block_count rs ≤ MAX_BLOCKS
@@ -144,13 +129,14 @@ mutual
   statements_numbers p n gives inside no_statements f = omega arith
   statements_numbers p n gives inside (more_statements s rest) f = omega (arith, statement_numbers p n gives inside s f.0, statements_numbers p n gives inside rest f.1)
 
-a_word : (w : Width) (n : ℕ) → 1 ≤ n → 1 ≤ words_of_elements w n
-a_word Word n le = le
-a_word Byte n le = omega (arith, le)
+-- a word has four bytes
+pub bytes_more : (w : Width) (n : ℕ) → n ≤ 4 * words_of_elements w n
+bytes_more Word n = omega arith
+bytes_more Byte n = omega arith
 
 words_enough : (gs : List Global) → All (λ (g : Global). 1 ≤ g.length) gs → length gs ≤ words_in gs
 words_enough [] a = omega arith
-words_enough (g ∷ gs) a = omega (arith, a_word g.width g.length (a 0 g (omega arith)), words_enough gs (λ k d lt. a (suc k) d (omega arith)))
+words_enough (g ∷ gs) a = omega (arith, bytes_more g.width g.length, a 0 g (omega arith), words_enough gs (λ k d lt. a (suc k) d (omega arith)))
 
 plain : (p : TypedProgram) (f : TypedFunction) → IsWellFormed p → FitsFunction p f → IsPlain f
 plain p f well fits =
@@ -240,6 +226,10 @@ pairs_same IsPair f g each _ _ m = absurd m
 
 pub pairs_length : {A B : Type 0} (IsPair : A → B → Type 0) (xs : List A) (ys : List B) → ArePairs IsPair xs ys → length ys ≡ length xs
 pairs_length IsPair xs ys m = simp length-map at (ap length (pairs_same {C = ℕ} IsPair (λ _. 0) (λ _. 0) (λ x y p. refl) xs ys m))
+
+pub codes_count : (fs : List TypedFunction) (rs : List RFunc) → AreCodesOf fs rs → sum_by block_count rs ≡ sum_by function_blocks fs
+codes_count fs rs m =
+    sym (sum-map block_count rs) ∙ ap sum (pairs_same IsCodeOf function_blocks block_count (λ f r c. c.count) fs rs m) ∙ sum-map function_blocks fs
 
 pub program_made : (parts : TypedParts) (fs : List Function) (gs : List Global) (rfs : List RFunc) (rgs : List RGlobal) (m : ℕ) (p : Program)
     → p ≡ Programs.program_of rfs rgs m → m ≡ parts.main → fs ≡ parts.functions → gs ≡ parts.globals → AreCodesOf (functions_of fs) rfs

@@ -145,11 +145,7 @@ get_some (x ∷ xs) (suc i) lt = get_some xs i (omega arith)
 
 values_length : (es : List TypedExpression) (l : Places) (g : Arrays) (vs : List ℕ) → values_of es l g ≡ Some vs → length vs ≡ length es
 values_length [] l g vs e = let is : [] ≡ vs = cc in sym (ap length is)
-values_length (x ∷ es) l g vs e =
-    let c = chained (value_of x l g) (λ v. chain (values_of es l g) (λ vs. Some (v ∷ vs))) vs e in
-    let c2 = chained (values_of es l g) (λ vs. Some (c.value ∷ vs)) vs c.then_is in
-    let is : c.value ∷ c2.value ≡ vs = let some = c2.then_is in cc in
-    sym (ap length is) ∙ ap suc (values_length es l g c2.value c2.is)
+values_length (x ∷ es) l g vs e = grind (arith, values_length es l g)
 
 -- what surrounds the call that runs and its activation: where their results go, what waits, and the globals and the output of both
 record Around (src : TypedProgram) : Type 0 where

@@ -38,7 +38,7 @@ use Rattle.rtl_lower.specs.Coded.{IsCodeOf, IsGlobalOf, AreCodesOf, AreGlobalsOf
 use Rattle.rtl_lower.specs.Laws.{IsOfSize, AreOfSizes}
 use Rattle.rtl_lower.specs.Sizes.{HaveRoom, function_blocks, function_registers}
 use Rattle.rtl_lower.specs.Sound.{Suits}
-use Rattle.rtl_lower.proofs.Functions.{expression_numbers, list_numbers, pairs_at, pairs_all, pairs_length}
+use Rattle.rtl_lower.proofs.Functions.{bytes_more, expression_numbers, list_numbers, pairs_at, pairs_all, pairs_length}
 
 -- expressions
 
@@ -81,10 +81,6 @@ callee_sound p s f f' callee es free ps rs su ef there count e a =
     record { callee = c.callee; there = ap (λ i. slice_get s.functions i) ef ∙ c.there; takes = c.takes ∙ sym n }
 
 -- globals
-
-bytes_more : (w : Width) (n : ℕ) → n ≤ 4 * words_of_elements w n
-bytes_more Word n = omega arith
-bytes_more Byte n = omega arith
 
 pub too_long_at : (gs : List Global) (i : ℕ) (d : Global) → i < length gs → 2 ^ 32 < (get_or gs i d).length + 1 → words_in gs ≤ MAX_GLOBAL_WORDS → ⊥
 too_long_at [] i d lt much le = absurd (omega arith)

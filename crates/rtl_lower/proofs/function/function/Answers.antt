@@ -1,4 +1,4 @@
-use Rattle.std.proofs.Common.{◌<◌, ap, arith, subst, sym}
+use Rattle.std.proofs.Common.{ap, arith, subst, sym}
 use Rattle.std.specs.Prelude.{false, is_some, None}
 use Rattle.c_typed.specs.Shape.{function_of, statements_of}
 use Rattle.c_typed.specs.Trees.{TypedStatements}
@@ -21,7 +21,7 @@ returns-clause-code c =
     omega (arith, c.in_ok-entry.ensures.insts, ap insts_in c.in_ok-blocks.ensures.items, c.in_ok-code.ensures.sound.2, filled, line, end, c.fill.ensures.insts))
     (λ p s su fits le.
     let n = rw c.fill.ensures.fills.same_length at le in
-    let some : 0 < s.blocks = omega (arith, c.in_ok-entry.ensures.reserves.longer, within c.in_ok-code.ensures.grows n) in
+    let some = rw (c.in_ok-entry.ensures.reserves.longer, c.in_ok-blocks.ensures.items) at (within c.in_ok-code.ensures.grows n) in
     let g = c.in_ok-entry.ensures.sound s (rw c.in_ok-blocks.ensures.items tt) in
     let body = subst (λ (b : TypedStatements). FitsStatements p c.args.f.now.locals (is_some c.args.f.now.result) false b)
     (sym (ap statements_of c.as_slice.ensures.value))

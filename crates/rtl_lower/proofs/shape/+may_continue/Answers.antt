@@ -12,11 +12,6 @@ returns-then-may_continue t c =
     let is = ap continues (ap statement_of c.in-Block.is ∙ block-is c.in-Block.all) ∙ ap any (sym c.deref-one-items.ensures.value) in
     grind (arith, is, at_drop_more any c.deref-one-items.result.now c.loop-one.one-index c.one-item.result c.loop-one-test.true, c.one-item.is)
 
-pub loop-one-preserved : goal.loop-one-preserved
-loop-one-preserved t c =
-    let any = λ (l : List TypedStatement). any_continues (statements_of l) in
-    grind (arith, at_drop_more any c.deref-one-items.result.now c.loop-one.one-index c.one-item.result c.loop-one-test.true, c.one-item.is)
-
 pub returns-after-loop-one : goal.returns-after-loop-one
 returns-after-loop-one t c =
     let any = λ (l : List TypedStatement). any_continues (statements_of l) in

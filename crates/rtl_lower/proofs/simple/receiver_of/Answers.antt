@@ -1,20 +1,8 @@
 use Rattle.std.proofs.Common.{◌≡◌, Some, rules}
 use Rattle.c_typed.specs.declared.tree.Destination.TheVariants.{Local, Global as Variable}
 use Rattle.rtl_emit.specs.Blocks.{spot}
-use Rattle.rtl_lower.proofs.Emitting.{sealed, nowhere_emits, to_local_emits, to_variable_emits}
+use Rattle.rtl_lower.proofs.Emitting.{sealed, to_variable_emits}
 use Rattle.rtl_lower.proofs.simple.receiver_of.Goals as goal
-
-pub returns-in_ok-block-in-None : goal.returns-in_ok-block-in-None
-returns-in_ok-block-in-None c =
-    let join = c.in_ok-block-in-None.ensures in
-    nowhere_emits _ c.in-None.is (sealed (spot c.args.after) join.grows join.count join.insts join.sound join.lands)
-
-pub returns-in_ok-block-in-Some-Local : goal.returns-in_ok-block-in-Some-Local
-returns-in_ok-block-in-Some-Local c =
-    let join = c.in_ok-block-in-Some-Local.ensures in
-    let local = c.in_ok-local-in-Some-Local.ensures in
-    let is : c.args.to ≡ Some (Local c.in-Some-Local.x) = search rules in
-    to_local_emits _ is local.is local.within (sealed (spot c.args.after) join.grows join.count join.insts join.sound join.lands)
 
 pub returns-in_ok-block-in-Some-Global : goal.returns-in_ok-block-in-Some-Global
 returns-in_ok-block-in-Some-Global c =

@@ -1,10 +1,7 @@
 use Rattle.std.proofs.Common.{ap}
 use Rattle.c_typed.specs.Shape.{maybe_typed_expression_of}
-use Rattle.rtl_lower.proofs.Emitting.{nothing_returned, value_returned}
+use Rattle.rtl_lower.proofs.Emitting.{value_returned}
 use Rattle.rtl_lower.proofs.simple.return_code.Goals as goal
-
-pub returns-in-None : goal.returns-in-None
-returns-in-None c = λ after. nothing_returned _ _ _ c.exit_block.result after (ap maybe_typed_expression_of c.in-None.is) c.exit_block.ensures
 
 pub returns-in_ok-value-in-Some : goal.returns-in_ok-value-in-Some
 returns-in_ok-value-in-Some c = λ after.
