@@ -1,13 +1,13 @@
 -- What the call for a statement promises (`Emits`), from what the calls for its parts did: one lemma for each kind.
-use Rattle.std.proofs.Common.{Vec, Global, ◌≡◌, ◌≢◌, ℕ, ◌+◌, ◌<◌, ◌≤◌, Bool, true, false, List, [], ◌++◌, Option, Some, None, ◌⊎◌, inl, inr, Ok, Err}
+use Rattle.std.proofs.Common.{Vec, Global, ◌≡◌, ◌≢◌, ℕ, ◌+◌, ◌<◌, ◌≤◌, Bool, true, false, List, [], ◌++◌, Option, Some, ◌⊎◌, inl, inr, Ok, Err}
 use Rattle.std.proofs.Common.{Result, refl, sym, ◌∙◌, ap, subst, arith, length, drop}
-use Rattle.std.specs.Prelude.{slice_get, ◌&&◌, not, IfSome, IfOk, IfErr, OnOk, map, if◌then◌else◌}
+use Rattle.std.specs.Prelude.{slice_get, ◌&&◌, not, IfOk, IfErr, OnOk, map, if◌then◌else◌}
 use Rattle.c_typed.specs.declared.tree.Destination.{Destination}
 use Rattle.c_typed.specs.declared.tree.Destination.TheVariants.{Local, Global as Variable}
 use Rattle.c_typed.specs.declared.tree.TypedStatement as Tree
-use Rattle.c_typed.specs.Shape.{statement_of, statements_of}
+use Rattle.c_typed.specs.Shape.{statements_of}
 use Rattle.c_typed.specs.Trees.{TypedExpression, TypedStatement, TypedStatements, assign, store, call, output, if_else, loop}
-use Rattle.c_typed.specs.Trees.{break_loop, continue_loop, return_with, no_statements, more_statements}
+use Rattle.c_typed.specs.Trees.{return_with, more_statements}
 use Rattle.rtl.specs.declared.instruction.RInst.TheVariants as I
 use Rattle.rtl.specs.declared.instruction.RExit.TheVariants as X
 use Rattle.rtl.specs.declared.block.RBlock.{RBlock}
@@ -28,10 +28,10 @@ use Rattle.rtl_emit.specs.declared.place.Place.{Place}
 use Rattle.rtl_emit.specs.declared.targets.Targets.{Targets}
 use Rattle.rtl_emit.proofs.Blocks.{grows_then, within, line_insts, split2, split3, split4}
 use Rattle.rtl_emit.proofs.Emitted.{Over, Joins, finds_to}
-use Rattle.rtl_emit.proofs.Emitting.{Ends, ended, part_refused, refused, grows_same}
+use Rattle.rtl_emit.proofs.Emitting.{Ends, ended, part_refused, grows_same}
 use Rattle.rtl_emit.proofs.Sound.{sound_along, sound_first, sound_exit, sound_line}
 use Rattle.rtl_lower.specs.Emits.{simple_code, statement_code, statements_code, made_of, side_code}
-use Rattle.rtl_lower.specs.Emits.{receiver, IsEnd, end_of_turn, last_size, last_code}
+use Rattle.rtl_lower.specs.Emits.{receiver, IsEnd, end_of_turn, last_code}
 use Rattle.rtl_lower.specs.Sizes.{stays, is_equality, continues, receiver_blocks, statement_joint, statements_joint}
 use Rattle.rtl_lower.specs.Sizes.{statement_blocks, statements_blocks, statements_registers, numbers_named_in}
 use Rattle.rtl_lower.specs.Coded.{enclosing, FetchesFirst}
@@ -40,7 +40,7 @@ use Rattle.rtl_lower.specs.declared.simple.Receiver.{Receiver}
 use Rattle.rtl_lower.specs.declared.statement.Turn.{Turn}
 use Rattle.rtl_lower.proofs.Sizes.{rest_within}
 use Rattle.rtl_lower.proofs.Sound.{fewer, named, named_all, in_scope, callee_sound, place_registers_sound}
-use Rattle.rtl_lower.proofs.Follows.{comes_equal, comes_join}
+use Rattle.rtl_lower.proofs.Follows.{comes_join}
 
 -- the same size, and less told
 meant : {A : Type 0} {part whole : Description A} {old new : List RBlock} {r : Result A LowerFault} → Emits part old new r

@@ -7,7 +7,7 @@ use Rattle.std.proofs.lemmas.Option.{slice_get_within, none-some}
 use Rattle.std.proofs.lemmas.List.Elements.{All-head}
 use Rattle.words.specs.declared.width.Width.{Width}
 use Rattle.words.specs.Widths.{kept}
-use Rattle.runs.specs.Stores.{Places, Arrays, unset_places, places_with, chain, arrays_with}
+use Rattle.runs.specs.Stores.{Places, Arrays, places_with, chain, arrays_with}
 use Rattle.runs.specs.Runs.{Running, Ended, Failed, with_value, outcome}
 use Rattle.runs.specs.declared.ran.End.TheVariants.{Wrong}
 use Rattle.runs.proofs.Steps.{steps-add}

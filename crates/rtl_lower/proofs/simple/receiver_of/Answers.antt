@@ -1,5 +1,5 @@
 use Rattle.std.proofs.Common.{◌≡◌, Some, rules}
-use Rattle.c_typed.specs.declared.tree.Destination.TheVariants.{Local, Global as Variable}
+use Rattle.c_typed.specs.declared.tree.Destination.TheVariants.{Global as Variable}
 use Rattle.rtl_emit.specs.Blocks.{spot}
 use Rattle.rtl_lower.proofs.Emitting.{sealed, to_variable_emits}
 use Rattle.rtl_lower.proofs.simple.receiver_of.Goals as goal

@@ -1,16 +1,11 @@
-use Rattle.std.proofs.Common.{◌≡◌, ◌+◌, ◌-◌, refl, sym, ◌∙◌, ap, arith, rules, length, Err}
-use Rattle.std.proofs.lemmas.Bool.{or_left, or_right}
-use Rattle.c_typed.specs.Shape.{typed_expression_of, typed_expressions_of, statement_of, statements_of}
-use Rattle.c_typed.specs.Trees.{block, call, if_else, loop}
+use Rattle.std.proofs.Common.{◌≡◌, ◌+◌, ◌-◌, refl, sym, ◌∙◌, ap, arith, rules, length}
+use Rattle.c_typed.specs.Shape.{typed_expressions_of, statement_of, statements_of}
+use Rattle.c_typed.specs.Trees.{block, call}
 use Rattle.c_typed.proofs.Shapes.{block-is}
 use Rattle.rtl_emit.specs.Blocks.{spot}
-use Rattle.rtl_emit.specs.Sizes.{joint, condition_blocks}
-use Rattle.rtl_emit.proofs.Blocks.{grows_then}
-use Rattle.rtl_emit.proofs.Emitting.{part_refused, refused, stopped, grows_same}
-use Rattle.rtl_lower.specs.Emits.{made_of}
-use Rattle.rtl_lower.specs.Sizes.{continues, statement_blocks, statement_joint}
-use Rattle.rtl_lower.proofs.Sizes.{any_of, weight, weight_within, none_left, one_left}
-use Rattle.rtl_lower.proofs.Emitting.{emitted, simple_emits}
+use Rattle.rtl_lower.specs.Sizes.{continues}
+use Rattle.rtl_lower.proofs.Sizes.{any_of, weight, weight_within, one_left}
+use Rattle.rtl_lower.proofs.Emitting.{simple_emits}
 use Rattle.rtl_lower.proofs.Emitting.{more_emits, list_stopped, side_emits, if_emits, turn_emits, loop_emits, sealed}
 use Rattle.rtl_lower.proofs.statement.+statements.Goals as goal
 
