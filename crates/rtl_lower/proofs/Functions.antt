@@ -3,7 +3,7 @@ use Rattle.std.proofs.Common.{◌≡◌, ◌≢◌, ℕ, zero, suc, ◌+◌, ◌
 use Rattle.std.proofs.Common.{◌*◌, sum, Bool, true, false, Option, sym, get_or, take}
 use Rattle.std.specs.Prelude.{All, slice_get, map, replicate, sum_by, is_some}
 use Rattle.std.proofs.lemmas.List.{length-map, length-replicate, get_or-map, map_push}
-use Rattle.std.proofs.lemmas.List.Elements.{All-nil, All-cons, All-head, All-tail, All-push}
+use Rattle.std.proofs.lemmas.List.Elements.{All-nil, All-cons, All-head, All-tail}
 use Rattle.words.specs.Words.{wrap}
 use Rattle.words.specs.Widths.{kept, words_of_elements}
 use Rattle.words.specs.declared.width.Width.{Width}

@@ -1,5 +1,5 @@
 -- What a well-formed program's statements name is there.
-use Rattle.std.proofs.Common.{◌≡◌, ℕ, suc, zero, ◌+◌, ◌*◌, ◌<◌, ◌≤◌, ◌^◌, List, [], ◌∷◌, ◌++◌, Option, Some, None, refl, sym, ◌∙◌, ap}
+use Rattle.std.proofs.Common.{◌≡◌, ℕ, suc, zero, ◌+◌, ◌<◌, ◌≤◌, ◌^◌, List, [], ◌∷◌, ◌++◌, Option, Some, None, refl, sym, ◌∙◌, ap}
 use Rattle.std.proofs.Common.{arith, length, get_or}
 use Rattle.std.specs.Prelude.{All, slice_get, sum_by, map, nat_lt, if◌then◌else◌}
 use Rattle.std.specs.List.{AllByRecursion}
@@ -9,8 +9,6 @@ use Rattle.std.proofs.lemmas.List.Sums.{sum_by-cons}
 use Rattle.std.proofs.lemmas.Option.{slice_get_within}
 use Rattle.std.proofs.lemmas.List.Elements.{All-nil, All-cons, All-head, All-tail, All-weaker, recursion_from_All}
 use Rattle.words.specs.Widths.{words_of_elements}
-use Rattle.words.specs.declared.width.Width.{Width}
-use Rattle.words.specs.declared.width.Width.TheVariants.{Word, Byte}
 use Rattle.c_typed.specs.declared.tree.Global.{Global}
 use Rattle.c_typed.specs.declared.limits.TheConstants.{MAX_GLOBAL_WORDS}
 use Rattle.c_typed.specs.declared.tree.Function.{Function}
@@ -21,7 +19,6 @@ use Rattle.c_typed.specs.WellFormed.{FitsExpression, FitsAll, FitsFunction, IsWe
 use Rattle.rtl.specs.Programs as Programs
 use Rattle.rtl.specs.Programs.{IsRegister, IsMaybeRegister, IsInst, IsExit, IsCallee, IsBlock, IsFunction, IsGlobal, IsProgram, block_count, word_count}
 use Rattle.rtl.specs.Names.{inst_names, optional, exit_names, insts_names, blocks_names, bound}
-use Rattle.rtl.specs.Meaning.{Code}
 use Rattle.rtl.specs.declared.limits.TheConstants.{MAX_REGISTERS}
 use Rattle.rtl.specs.declared.instruction.RInst.{RInst}
 use Rattle.rtl.specs.declared.instruction.RInst.TheVariants.{Const}

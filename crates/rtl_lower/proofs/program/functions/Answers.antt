@@ -1,5 +1,5 @@
-use Rattle.std.proofs.Common.{◌≡◌, ◌≤◌, sym, subst, take_all, rules}
-use Rattle.c_typed.specs.Shape.{function_of, functions_of}
+use Rattle.std.proofs.Common.{◌≡◌, ◌≤◌, take_all, rules}
+use Rattle.c_typed.specs.Shape.{functions_of}
 use Rattle.std.proofs.lemmas.List.Elements.{All-push}
 use Rattle.rtl.specs.declared.limits.TheConstants.{MAX_REGISTERS}
 use Rattle.rtl_emit.specs.declared.fault.LowerFault.TheVariants.{Limit}
