@@ -3,7 +3,6 @@ use Rattle.std.proofs.Common.{◌≡◌, ℕ, suc, ◌+◌, ◌<◌, Bool, false
 use Rattle.std.proofs.Common.{length, drop, get_or}
 use Rattle.std.specs.Prelude.{slice_get, if◌then◌else◌}
 use Rattle.std.proofs.lemmas.List.{append_assoc, at_drop_more, length_push}
-use Rattle.std.proofs.lemmas.Option.{none-some}
 use Rattle.mips_homes.specs.HomedRun.{is_in}
 use Rattle.mips_homes.specs.Best.{IsHome, AreHomesOf, AreFirst}
 use Rattle.mips_homes.specs.Places.{free_register, home_or, also, places_from}
@@ -31,9 +30,6 @@ home_slot best x used homes homes' e out before =
     rw e (more best x used (used + 1) homes (Slot used) before (out, before.counted) (rw out (omega arith)))
 
 -- the first n registers, and one more
-pub none_first : (saved : List ℕ) → saved ≡ [] → AreFirst 0 saved
-none_first saved e = rw e (record { long = refl; by = λ j r got. absurd (none-some r got) })
-
 pub one_more_first : (n : ℕ) (saved saved' : List ℕ) → saved' ≡ saved ++ (16 + n) ∷ [] → AreFirst n saved → AreFirst (n + 1) saved'
 one_more_first n saved saved' e before = rw e (record {
   long = omega (arith, length_push saved (16 + n), before.long);

@@ -44,9 +44,6 @@ pub take_one : {A : Type 0} (all : List A) (i j : ℕ) (x d : A) → i < length 
 take_one all i j x d lt ij is = rw (ij, add-one, is) (take-suc all i d lt)
 
 -- statements of a list that are done, the last ones
-pub none_left : (all : List TypedStatement) (n : ℕ) → n ≡ length all → statements_of (drop n all) ≡ no_statements
-none_left all n e = ap statements_of (drop_of_length-le all (omega (arith, e)))
-
 pub one_left : (all : List TypedStatement) (s : TypedStatement) (done : ℕ) → done < length all → s ≡ get_or all (length all - 1 - done) s
     → statements_of (drop (length all - (done + 1)) all) ≡ more_statements (statement_of s) (statements_of (drop (length all - done) all))
 one_left all s done lt is =

@@ -30,6 +30,3 @@ returns-clause-codes c = rw (take_all c.loop-f.f-index c.args.all.now c.loop-f-t
 
 pub returns-clause-count : goal.returns-clause-count
 returns-clause-count c = codes_count _ _ (returns-clause-codes c)
-
-pub returns-clause-room : goal.returns-clause-room
-returns-clause-room c = rw (take_all c.loop-f.f-index c.args.all.now c.loop-f-test.false) at c.loop-f.invariant.1

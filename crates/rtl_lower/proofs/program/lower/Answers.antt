@@ -16,15 +16,6 @@ returns-clause-sizes c =
     sizes_are c.args.program.now c.functions.result.now c.in_ok-functions.functions.items _ c.functions.ensures.value
     (ap (λ (p : Program). p.functions) c.in-Some.ensures.1) c.in_ok-functions.ensures.codes c.functions.ensures.fits
 
-pub returns-clause-variables : goal.returns-clause-variables
-returns-clause-variables c =
-    rw (← c.globals.ensures, ap (λ (p : Program). p.globals) c.in-Some.ensures.1) c.in_ok-globals.ensures.are
-
-pub returns-clause-within : goal.returns-clause-within
-returns-clause-within c =
-    rw (← c.functions.ensures.value)
-    (room_of _ c.in_ok-functions.functions.items (c.in-Some.ensures.0).blocks_fit c.in_ok-functions.ensures.count c.in_ok-functions.ensures.room)
-
 pub functions-requires-2 : goal.functions-requires-2
 functions-requires-2 c = record { plain = rw c.functions.ensures.value (plain_functions (program_of c.args.program.now) c.functions.ensures.fits) }
 
