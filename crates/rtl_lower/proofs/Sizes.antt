@@ -1,6 +1,6 @@
 -- The sizes of lists of statements, taken from the last one on.
 use Rattle.std.proofs.Common.{◌≡◌, Bool, ℕ, zero, suc, ◌+◌, ◌-◌, ◌<◌, ◌≤◌, true, List, [], ◌∷◌, ◌++◌, Some, None, refl, sym, ◌∙◌, ap}
-use Rattle.std.proofs.Common.{add-one, arith, length, get_or, take, drop, drop_of_length-le}
+use Rattle.std.proofs.Common.{add-one, arith, length, get_or, take, drop}
 use Rattle.std.specs.Prelude.{slice_get, ◌||◌}
 use Rattle.std.proofs.lemmas.List.Folds.{list_any_at}
 use Rattle.std.specs.List.{list_any}
