@@ -28,7 +28,8 @@ same_step : (h : Homed) (depth : ℕ) (run : Run) → ForgetsNothing run → ste
 same_step h depth (Running r (a ∷ ws) g out) only = code a.code.insts
   where
     code : (insts : List RInst)
-        → code_keeping (rules (λ r. r) h depth) insts a.code.exit a (around r ws g out) ≡ code_keeping (rules callee_saved h depth) insts a.code.exit a (around r ws g out)
+        → code_keeping (rules (λ r. r) h depth) insts a.code.exit a (around r ws g out)
+        ≡ code_keeping (rules callee_saved h depth) insts a.code.exit a (around r ws g out)
     code [] =
         exit_kept (λ r. r) h depth a.code.exit a (around r ws g out)
         ∙ ap (λ (p : Places). exit_keeping (rules (λ _. p) h depth) a.code.exit a (around r ws g out)) (sym only)

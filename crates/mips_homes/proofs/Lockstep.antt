@@ -17,7 +17,8 @@ use Rattle.rtl.specs.Meaning as Meaning
 use Rattle.rtl.specs.Meaning.{Code, code_of, words_in, argument_registers, kept_in, first_values, rtl_step, rtl_steps, rtl_start}
 use Rattle.rtl.proofs.Copies.{goes_block}
 use Rattle.mips_homes.specs.Locals.{inst_reads, inst_writes, reads_first, block_reads_first, goes_to, some_go_to}
-use Rattle.mips_homes.specs.HomedRun.{cells, Surroundings, around, is_callee_saved, callee_saved, Activation, new_activation, Run, Running, Ended, Failed}
+use Rattle.mips_homes.specs.HomedRun.{cells, Surroundings, around, is_callee_saved, callee_saved, Activation, new_activation, Run, Running}
+use Rattle.mips_homes.specs.HomedRun.{Ended, Failed}
 use Rattle.mips_homes.specs.HomedRun.{with_value, in_home, read_home, read_homes, write_at}
 use Rattle.mips_homes.specs.HomedRun.{write_home, write_homes, is_in, registers_at_entry, registers_at_return, with_inst, at_code}
 use Rattle.mips_homes.specs.HomedRun.{state_at_block, with_result, state_after_return, state_after_call, state_after_exit, step_at}
@@ -219,7 +220,8 @@ module _ (h : Homed) where
         -- a write that changes no other cell
         put : (h : Home) → slice_get hs d ≡ Some h → (registers' slots' : Places) → in_home registers' slots' h ≡ Some v
             → ((k : Home) → cell k ≢ cell h → in_home registers' slots' k ≡ in_home registers slots k)
-            → below saved aside registers' ≡ below saved aside registers → (AreCalleeSaved hs → callee_saved registers' ≡ registers') → Alike (go registers' slots') t
+            → below saved aside registers' ≡ below saved aside registers → (AreCalleeSaved hs → callee_saved registers' ≡ registers')
+            → Alike (go registers' slots') t
         put h is registers' slots' here there back only = f registers' slots' (record { by = λ y k at m. by y k at m (nat_eq y d) refl; only = only }) back
           where
             by : (y : ℕ) (k : Home) → slice_get hs y ≡ Some k → (is_caller_saved k ≡ true → wanted' y ≡ true) → (b : Bool) → nat_eq y d ≡ b

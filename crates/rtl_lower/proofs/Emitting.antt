@@ -14,7 +14,8 @@ use Rattle.rtl.specs.declared.block.RBlock.{RBlock}
 use Rattle.rtl.specs.declared.limits.TheConstants.{MAX_REGISTERS, MAX_BLOCKS}
 use Rattle.runs.specs.Runs.{with_value}
 use Rattle.rtl.specs.Meaning.{Code, activation, around_callee, code_of, words_in, state_after_call}
-use Rattle.rtl_emit.specs.Blocks.{At, Spot, Block, Line, Lands, Grows, Has, Reserves, Fills, open_code, exit_code, first, spot, line_of, insts_of, insts_at, insts_in}
+use Rattle.rtl_emit.specs.Blocks.{At, Spot, Block, Line, Lands, Grows, Has, Reserves, Fills, open_code, exit_code, first, spot, line_of}
+use Rattle.rtl_emit.specs.Blocks.{insts_of, insts_at, insts_in}
 use Rattle.rtl_emit.specs.Emits.{Description, Emits, value, operand, operands, condition_branch}
 use Rattle.rtl_emit.specs.Expressions.{IsPlace, Fetches, AddPlaces}
 use Rattle.rtl_emit.specs.Sizes.{joint, place_registers, places_registers, next_free, value_registers, value_blocks, condition_blocks}
@@ -105,7 +106,10 @@ pub local_emits : (old new : List RBlock) (to : Destination) (x local : ℕ) (e 
     → Emits (simple_code (assign to e) free after) old new r
 local_emits old new to x local e free after r it il lt v =
     rw (it, ← il) (meant v (omega (arith, lt))
-    (λ from keeps. (λ p n gives inside f s l g h. keeps.0 s l g (omega (arith, h.0.registers_fit), ((omega (arith, h.0.registers_fit), named p s n e h.0 f.1), h.1)), keeps.1))
+    (λ from keeps. (
+      λ p n gives inside f s l g h. keeps.0 s l g (omega (arith, h.0.registers_fit), ((omega (arith, h.0.registers_fit), named p s n e h.0 f.1), h.1)),
+      keeps.1,
+    ))
     (λ from does bs h leave next. record { code = open_code from; is = refl; value = does bs h }))
 
 pub variable_emits : (old new : List RBlock) (to : Destination) (x g : ℕ) (e : TypedExpression) (free p next z : ℕ) (last middle : OpenBlock)
@@ -339,11 +343,16 @@ if_emits {b0} {b1} {b2} {b3} {b4} {join} {y} {n} {likely} {after} {r} e a b c il
 pub block_ends : {old new : List RBlock} {many : Bool} {last : Spot} {b : ℕ} → many ≡ true → Sealing old new b last
     → Emits (end_of_turn many last) old new (Ok (record { next = Some b; after = Jump b }))
 block_ends {old} {new} {many} {last} {b} im sealing = rw im (emitted _ sealing.grows sealing.count (omega arith)
-    ((refl, refl), λ s l g h. let j = sealing.sound s l g h in (j.0, (j.1, j.1)), omega (arith, sealing.insts)) (λ bs h. record { comes = comes_join bs b last (sealing.lands bs h); continues = λ b' e. (let is : b ≡ b' = cc in rw (← is) (sealing.lands bs h)) }))
+    ((refl, refl), λ s l g h. let j = sealing.sound s l g h in (j.0, (j.1, j.1)), omega (arith, sealing.insts))
+    (λ bs h. record {
+      comes = comes_join bs b last (sealing.lands bs h);
+      continues = λ b' e. (let is : b ≡ b' = cc in rw (← is) (sealing.lands bs h));
+    }))
 
 pub turn_emits : {b0 b1 b2 b3 : List RBlock} {bottom : OpenBlock} {code : Continuation} {r : Result Turn LowerFault} (e : TypedExpression)
     (last : TypedStatement) (c : Context) (many : Bool) (again : Targets) → Emits (condition_branch e again c.free) b0 b1 (Ok bottom)
-    → Emits (statement_code last c (Line (open_code bottom))) b1 b2 (Ok code) → Emits (end_of_turn many (spot code)) b2 b3 r → Emits (last_code e last c many again) b0 b3 r
+    → Emits (statement_code last c (Line (open_code bottom))) b1 b2 (Ok code) → Emits (end_of_turn many (spot code)) b2 b3 r
+    → Emits (last_code e last c many again) b0 b3 r
 turn_emits {b0} {b1} {b2} {b3} {bottom} {code} e last c many again test part end =
     let same : joint (spot code) ≡ statement_joint last 1 = part.sound.0 in
     ended (condition_blocks e + statement_blocks last 1) end (omega (arith, ap (λ n. if many then n else 0) same, test.room, part.room))

@@ -97,7 +97,12 @@ expression_numbers p n (global x k) f = omega (arith, f)
 expression_numbers p n (element x k e) f = omega (arith, f.0, expression_numbers p n e f.1)
 expression_numbers p n (unary o k e) f = expression_numbers p n e f.1
 expression_numbers p n (binary o k a b) f = omega (arith, expression_numbers p n a f.1.0, expression_numbers p n b f.1.1)
-expression_numbers p n (conditional k c a b) f = omega (arith, expression_numbers p n c f.1.0, expression_numbers p n a f.1.1.0, expression_numbers p n b f.1.1.1)
+expression_numbers p n (conditional k c a b) f = omega (
+  arith,
+  expression_numbers p n c f.1.0,
+  expression_numbers p n a f.1.1.0,
+  expression_numbers p n b f.1.1.1,
+)
 expression_numbers p n _ f = omega arith
 
 pub list_numbers : (p : TypedProgram) (n : ℕ) (es : List TypedExpression) → FitsAll p n es → globals_named_in es ≤ length p.globals
@@ -127,7 +132,11 @@ mutual
   statements_numbers : (p : TypedProgram) (n : ℕ) (gives inside : Bool) (all : TypedStatements) → FitsStatements p n gives inside all
       → numbers_named_in all ≤ length p.globals + length p.functions
   statements_numbers p n gives inside no_statements f = omega arith
-  statements_numbers p n gives inside (more_statements s rest) f = omega (arith, statement_numbers p n gives inside s f.0, statements_numbers p n gives inside rest f.1)
+  statements_numbers p n gives inside (more_statements s rest) f = omega (
+    arith,
+    statement_numbers p n gives inside s f.0,
+    statements_numbers p n gives inside rest f.1,
+  )
 
 -- a word has four bytes
 pub bytes_more : (w : Width) (n : ℕ) → n ≤ 4 * words_of_elements w n
@@ -154,7 +163,8 @@ plain_functions p well k d lt = plain p (get_or p.functions k d) well (well.func
 -- the code of a function
 
 pub function_code : (f : TypedFunction) (r : RFunc) (b0 b1 b2 : List RBlock) (free entry : ℕ) (all : TypedStatements) (filled end : Code) (from : Spot)
-    → free ≡ f.locals → r.parameters ≡ f.parameters → all ≡ f.body → b0 ≡ [] → Reserves b0 b1 entry → Over b1 b2 (λ bs. CodedAll (enclosing bs free) all 0 None from (Line end))
+    → free ≡ f.locals → r.parameters ≡ f.parameters → all ≡ f.body → b0 ≡ [] → Reserves b0 b1 entry
+    → Over b1 b2 (λ bs. CodedAll (enclosing bs free) all 0 None from (Line end))
     → filled ≡ line_of from → Fills b2 r.blocks.items entry filled
     → length b2 ≡ length b1 + statements_blocks all 1
     → insts_in r.blocks.items ≤ statements_insts all

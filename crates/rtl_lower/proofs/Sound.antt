@@ -217,7 +217,8 @@ parts_program parts fs ds rs gs main em ifs ids of_parts of_globals sum well roo
     let callees = callee_of p.functions rs codes in
     let m = callees p.main well.main well.entry in
     record {
-      functions = functions_are p rs callees (length gs) (omega (arith, pairs_length IsGlobalOf p.globals gs globals)) p.functions rs codes well.functions room.registers;
+      functions = functions_are p rs callees (length gs) (omega (arith, pairs_length IsGlobalOf p.globals gs globals)) p.functions rs codes well.functions
+          room.registers;
       globals = globals_are p.globals gs globals well.globals;
       main = record { callee = m.callee; there = ap (λ i. slice_get rs i) em ∙ m.there; takes = m.takes ∙ well.alone };
       blocks_fit = omega (arith, sum, ap (λ fs. sum_by function_blocks (functions_of fs)) ifs, room.blocks);
