@@ -1,8 +1,8 @@
 //! What is said of numbers that are no constants, and of texts beyond a size.
 
-use crate::said::Said;
 use crate::source::{Source, back, before, front, is_word, shown_text, spelled_at};
 use c_tokens::{MAX_TEXT, Mark};
+use text::Said;
 
 /// The most tokens in a row without `;`, `{` or `}` (c_tokens).
 const MAX_RUN: usize = 1024;

@@ -1,7 +1,7 @@
 //! What is said of bytes that begin no token, and of what C has and this subset leaves out.
 
-use crate::said::Said;
 use crate::source::{Source, Told, back, before, front, shown_text, spelled_at, told_of};
+use text::Said;
 
 const NO_DIRECTIVES: &str = "there is no preprocessor: leave the line out";
 

@@ -19,7 +19,6 @@ mod missing;
 mod more_tokens;
 mod names;
 mod near_names;
-mod said;
 mod source;
 mod statements;
 mod syntax;
@@ -34,7 +33,6 @@ use crate::constants::{say_constant, say_size};
 use crate::expected::expected_words;
 use crate::lexical::{say_byte, say_token};
 use crate::more_tokens::say_more;
-use crate::said::Said;
 use crate::source::Source;
 use crate::syntax::say_syntax;
 use crate::types::say_types;
@@ -42,7 +40,7 @@ use c_front::{FrontFault, FrontFaultKind};
 pub use fault::SourceFault;
 pub use statements::{PlacedStatement, placed_statements};
 use std::alloc::{AllocError, Global};
-use text::Explanation;
+use text::{Explanation, Said};
 pub use warnings::{Warning, warnings_of};
 
 fn say_front(

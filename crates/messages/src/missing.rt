@@ -1,8 +1,8 @@
 //! Hints that name what is missing further up in the text: a brace or a semicolon.
 
-use crate::said::Said;
 use crate::source::{Source, TYPES, after, before};
 use c_tokens::{Mark, Token};
+use text::Said;
 
 /// Reports whether a function's head stands at a token that can't stand. The token is the `(` of `type name (`, or the `void` that such a
 /// head begins with.

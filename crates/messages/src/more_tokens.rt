@@ -4,11 +4,11 @@ ghost use Rattle.std.specs.Prelude.{◌≤◌, length};
 ghost use Rattle.c_tokens.specs.declared.sizes.TheConstants.{MAX_TEXT};
 
 use crate::lexical::after_blanks;
-use crate::said::{Line, Said};
 use crate::source::{back, front, is_word, shown_text, spelled_at};
 use c_tokens::{LexFault, MAX_TEXT, Refusal, lex};
 use host::{Spot, spot_of};
 use std::alloc::{AllocError, Global};
+use text::{Line, Said};
 
 /// So many are named at most.
 const NAMED: usize = 8;

@@ -6,6 +6,7 @@ use c_tokens::{LexFault, MAX_TEXT, Mark, Token, lex};
 use host::{Spot, spot_of};
 use std::alloc::{AllocError, Global};
 use std::str;
+use text::Line;
 
 /// The most bytes of a name that a message shows (C99 5.2.4.1: so many are significant).
 const SHOWN: usize = 63;
@@ -211,6 +212,12 @@ impl<'t> Source<'t> {
     /// Returns line and column of a token.
     pub(crate) fn spot(&self, k: usize) -> Spot {
         spot_of(self.text, self.at(k))
+    }
+
+    /// Writes line and column of a token.
+    pub(crate) fn put_spot(&self, out: &mut Line, k: usize) {
+        let Spot { line, column } = self.spot(k);
+        out.put(&format_args!("line {line}, column {column}"));
     }
 }
 

@@ -2,7 +2,6 @@
 
 use crate::headers::{NO_CASTS, type_hint};
 use crate::missing::hint_missing;
-use crate::said::Said;
 use crate::source::{Source, TYPES, before};
 use Fact::{
     AfterAssign, AfterCall, AfterDeclared, AfterName, AfterNoOperand, AtFileScope, Before, Begins,
@@ -10,6 +9,7 @@ use Fact::{
     InParentheses, Is, IsConstant, IsFirst, IsName, IsOperator, IsPointerSign, IsSecond, IsType,
 };
 use c_tokens::{JumpWord, Mark, Token};
+use text::Said;
 
 /// What can be found of a token that can't stand there.
 enum Fact {
@@ -247,7 +247,7 @@ fn say_end(said: &mut Said, source: &Source<'_>, expected: &[&str]) {
     }
     if let Some(open) = source.open_before(source.count(), Mark::LeftBrace) {
         said.hint("the '{' of ");
-        said.hint.spot(source.spot(open));
+        source.put_spot(&mut said.hint, open);
         said.hint(" isn't closed");
     }
 }

@@ -3,11 +3,11 @@
 use crate::headers::written_for;
 use crate::names::{in_sight, last_function, names_before};
 use crate::near_names::nearest;
-use crate::said::Said;
 use crate::source::{Source, Told, after, before, told_of};
 use c_statements::{TypeFault, TypeFaultKind};
 use c_tokens::{Mark, Token};
 use std::alloc::{AllocError, Global};
+use text::Said;
 
 /// Names of C's library, and of its headers, with what to write.
 #[rattlefmt::skip]
@@ -55,7 +55,7 @@ fn say_redeclared(said: &mut Said, source: &Source<'_>, k: usize, first: Option<
     if let Some(first) = first {
         said.say_name(name, "is declared twice in this scope");
         said.hint("the first one stands at ");
-        said.hint.spot(source.spot(first));
+        source.put_spot(&mut said.hint, first);
     } else {
         said.say_name(name, "is there from the beginning: it prints a word");
         said.hint("give yours another name");

@@ -1,7 +1,7 @@
 //! Text for people that steers no terminal: `?` stands for what isn't printable ASCII.
 //!
 //! Definitions: `specs/Shown.antt`, `specs/Written.antt`.
-//! Contract: `Writer`, `Page`, `Explanation::new`, `printable_byte`
+//! Contract: `Writer`, `Page`, `Explanation::new`, `Said`, `printable_byte`
 //! - A `Writer` writes what it is given, as it is shown, or reports refused memory.
 //! - A `Page` is printable ASCII and line feeds. An `Explanation` is printable ASCII.
 #![tactic(auto)]
@@ -9,9 +9,11 @@
 mod explanation;
 mod page;
 mod printable;
+mod said;
 mod writer;
 
 pub use explanation::Explanation;
 pub use page::{Page, WIDTH};
 pub use printable::printable_byte;
+pub use said::{Line, Said};
 pub use writer::Writer;

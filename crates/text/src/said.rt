@@ -1,48 +1,47 @@
-//! What is said of a fault, as it is written.
+//! An explanation, as it is written.
 
 ghost use Rattle.std.specs.Prelude.{IfOk};
 ghost use Rattle.text.specs.Shown.{IsPrintableExplanation};
 
-use host::Spot;
+use crate::explanation::Explanation;
+use crate::page::Page;
+use crate::writer::Writer;
 use std::alloc::{AllocError, Global};
 use std::fmt::Display;
-use text::{Explanation, Page, Writer};
 
 /// A line that grows piece by piece.
 #[derive(Drop)]
-pub(crate) struct Line(Writer);
+pub struct Line(Writer);
 
 impl Line {
-    pub(crate) fn new(alloc: Global) -> Line {
+    /// Returns a line with nothing written.
+    pub fn new(alloc: Global) -> Line {
         Line(Writer::new(alloc))
     }
 
-    pub(crate) fn text(&mut self, text: &str) {
+    /// Writes a text.
+    pub fn text(&mut self, text: &str) {
         self.0.text(text);
     }
 
-    pub(crate) fn put<T: Display>(&mut self, value: &T) {
+    /// Writes a value as it is displayed.
+    pub fn put<T: Display>(&mut self, value: &T) {
         self.0.put(value);
     }
 
     /// Goes on with another line, unless memory was refused to that one.
-    pub(crate) fn line(&mut self, line: Line) -> Result<(), AllocError> {
+    pub fn line(&mut self, line: Line) -> Result<(), AllocError> {
         self.0.page(&line.0.end()?);
         Ok(())
-    }
-
-    pub(crate) fn spot(&mut self, spot: Spot) {
-        let Spot { line, column } = spot;
-        self.put(&format_args!("line {line}, column {column}"));
     }
 }
 
 /// A message, a hint, and what else is wrong: each may be empty but the message.
 #[derive(Drop)]
-pub(crate) struct Said {
-    pub(crate) message: Line,
-    pub(crate) hint: Line,
-    pub(crate) more: Line,
+pub struct Said {
+    pub message: Line,
+    pub hint: Line,
+    pub more: Line,
 }
 
 /// Returns the bytes of a page, if it has any.
@@ -51,7 +50,8 @@ fn if_any(page: &Page) -> Option<&[u8]> {
 }
 
 impl Said {
-    pub(crate) fn new(alloc: Global) -> Said {
+    /// Returns an explanation that says nothing.
+    pub fn new(alloc: Global) -> Said {
         Said {
             message: Line::new(alloc),
             hint: Line::new(alloc),
@@ -60,28 +60,28 @@ impl Said {
     }
 
     /// Goes on with the message.
-    pub(crate) fn say(&mut self, text: &str) {
+    pub fn say(&mut self, text: &str) {
         self.message.text(text);
     }
 
     /// Goes on with the hint.
-    pub(crate) fn hint(&mut self, text: &str) {
+    pub fn hint(&mut self, text: &str) {
         self.hint.text(text);
     }
 
     /// Says a whole message and a whole hint.
-    pub(crate) fn say_both(&mut self, message: &str, hint: &str) {
+    pub fn say_both(&mut self, message: &str, hint: &str) {
         self.say(message);
         self.hint(hint);
     }
 
     /// Begins the message by a name or a sign, in quotes.
-    pub(crate) fn say_name(&mut self, name: &str, what: &str) {
+    pub fn say_name(&mut self, name: &str, what: &str) {
         self.message.put(&format_args!("'{name}' {what}"));
     }
 
     /// Returns what was written, unless memory was refused.
-    pub(crate) fn end(self, alloc: Global) -> Result<Explanation, AllocError>
+    pub fn end(self, alloc: Global) -> Result<Explanation, AllocError>
         ensures { IfOk result IsPrintableExplanation }
     {
         let message = self.message.0.end()?;
