@@ -41,10 +41,12 @@ const LEFT_OUT_HERE: &str = "isn't in this subset of C";
 
 /// Returns what a text is that begins with a byte order mark, and what to do; None if it doesn't.
 fn mark_hint(text: &[u8]) -> Option<&'static str> {
-    match text {
-        [239, 187, 191, ..] => Some("save the file as UTF-8 without it"),
-        [255, 254, ..] | [254, 255, ..] => Some("the file is UTF-16: save it as ASCII"),
-        _ => None,
+    if text.starts_with(b"\xEF\xBB\xBF") {
+        Some("save the file as UTF-8 without it")
+    } else if text.starts_with(b"\xFF\xFE") || text.starts_with(b"\xFE\xFF") {
+        Some("the file is UTF-16: save it as ASCII")
+    } else {
+        None
     }
 }
 
@@ -113,9 +115,9 @@ fn say_quoted(said: &mut Said, text: &[u8], at: usize) {
         "write the character's number",
     );
     let number = match back(text, at.saturating_add(1)) {
-        [b'\\', rest @ ..] => rest.first().copied().and_then(escaped),
+        [b'\\'] | [] => None,
+        [b'\\', letter, ..] => escaped(*letter),
         [letter, ..] => Some(*letter),
-        [] => None,
     };
     if let Some(number) = number {
         said.hint.put(&format_args!(": {number}"));

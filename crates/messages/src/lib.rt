@@ -53,7 +53,7 @@ fn say_front(
         FrontFaultKind::Byte => say_byte(said, source.text, fault.at),
         FrontFaultKind::Token => {
             say_token(said, source, fault.at);
-            say_more(alloc, said, source.text, fault.at)?;
+            return say_more(alloc, said, source.text, fault.at);
         }
         FrontFaultKind::Syntax => {
             let k = source.index_of(fault.at);

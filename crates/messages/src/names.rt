@@ -20,16 +20,13 @@ pub(crate) fn names_before(
 ) -> Result<Vec<usize>, AllocError> {
     let (mut names, mut scopes) = (Vec::new(alloc), Vec::new(alloc));
     for k in 0..end.min(source.count()) {
-        match source.mark(k) {
-            // at file scope a function's parameters begin
-            Some(Mark::LeftParen) if scopes.is_empty() => scopes.push(names.len())?,
-            Some(Mark::LeftBrace) => scopes.push(names.len())?,
-            Some(Mark::RightBrace) => leave(&mut names, &mut scopes),
-            _ => {
-                if source.is_declared(k) {
-                    names.push(k)?;
-                }
-            }
+        // at file scope a function's parameters begin
+        if source.is(k, Mark::LeftBrace) || (scopes.is_empty() && source.is(k, Mark::LeftParen)) {
+            scopes.push(names.len())?;
+        } else if source.is(k, Mark::RightBrace) {
+            leave(&mut names, &mut scopes);
+        } else if source.is_declared(k) {
+            names.push(k)?;
         }
     }
     Ok(names)
