@@ -17,8 +17,9 @@ mod reader;
 mod spelled;
 mod stage;
 
+pub use cuts::{Halves, cut, first_line};
 pub use fault::PairFault;
 pub use line::{exit_of, plain_of};
 pub use lines::{ExitLine, put_insts, put_order};
-pub use names::ExitName;
+pub use names::{ExitName, exit_named, mnemonic_named};
 pub use reader::{Text, read};

@@ -105,6 +105,11 @@ fn guard_page(
     out.end()
 }
 
+/// Reports whether one of these pages says the same.
+fn is_among(pages: &[Page], page: &Page) -> bool {
+    pages.iter().any(|other| other.bytes() == page.bytes())
+}
+
 /// Returns all guards one after another, each of them once.
 fn guards_page(alloc: Global, left: &mut Left, depth: u32) -> Result<Page, AllocError> {
     let mut pages = Vec::new(alloc);
@@ -114,10 +119,7 @@ fn guards_page(alloc: Global, left: &mut Left, depth: u32) -> Result<Page, Alloc
             break;
         };
         let page = guard_page(alloc, left, guard, number, depth)?;
-        if !pages
-            .iter()
-            .any(|other: &Page| other.bytes() == page.bytes())
-        {
+        if !is_among(pages.as_slice(), &page) {
             out.text(if pages.is_empty() { "" } else { "; " });
             out.page(&page);
             pages.push(page)?;
@@ -203,6 +205,24 @@ fn put_line(
     Ok(())
 }
 
+/// Writes a line for each place that changes.
+fn put_changed(
+    alloc: Global,
+    out: &mut Writer,
+    left: &mut Left,
+    depth: u32,
+) -> Result<(), AllocError> {
+    for r in 1..32u8 {
+        if let Some(register) = NonzeroReg::new(r) {
+            put_line(alloc, out, left, Place::Register(register), depth)?;
+        }
+    }
+    for place in OTHERS {
+        put_line(alloc, out, left, place, depth)?;
+    }
+    Ok(())
+}
+
 /// Writes what a block leaves: a line for each register, HI, LO and memory that changes, its term cut at a depth. The exit has one line,
 /// and so have the guards. Where the table has no room, one line says so.
 pub fn put_left(
@@ -215,13 +235,5 @@ pub fn put_left(
         out.text("    full\n");
         return Ok(());
     };
-    for r in 1..32u8 {
-        if let Some(register) = NonzeroReg::new(r) {
-            put_line(alloc, out, &mut left, Place::Register(register), depth)?;
-        }
-    }
-    for place in OTHERS {
-        put_line(alloc, out, &mut left, place, depth)?;
-    }
-    Ok(())
+    put_changed(alloc, out, &mut left, depth)
 }

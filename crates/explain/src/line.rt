@@ -3,15 +3,20 @@
 ghost use Rattle.std.specs.Prelude.{IfOk};
 ghost use Rattle.text.specs.Shown.{IsPrintableExplanation};
 
-use crate::operands::hint_of_operands;
+use crate::operands::say_hint_of_operands;
+use block_text::{ExitName, cut, exit_named, first_line, mnemonic_named};
+use mips_isa::Mnemonic;
 use std::alloc::{AllocError, Global};
 use std::str;
-use text::Explanation;
+use text::{Explanation, Said};
 
 /// The most instructions of a block, and of an order (docs/FORMATS.md).
 const BLOCK: usize = 512;
 
 const ORDER: usize = 2048;
+
+/// The most bytes of a word that are shown.
+const SHOWN: usize = 63;
 
 const SMALL: &str = "n from 0 to 31";
 
@@ -25,32 +30,8 @@ const BLOCKS: &str = "numbers of blocks are from 0 to 1048575";
 
 const ALONE: &str = "nothing stands behind it";
 
-/// Mnemonics, their operands, and what those may be.
-type Form = (&'static [&'static [u8]], &'static str, &'static str);
-
-#[rattlefmt::skip]
-const INSTRUCTIONS: &[Form] = &[
-    (&[b"sll", b"srl", b"sra"], " $rd,$rt,n", SMALL),
-    (&[b"sllv", b"srlv", b"srav"], " $rd,$rt,$rs", NO_NUMBER),
-    (&[b"addu", b"subu", b"and", b"or", b"xor", b"nor", b"slt", b"sltu"], " $rd,$rs,$rt", NO_NUMBER),
-    (&[b"addiu", b"slti", b"sltiu"], " $rt,$rs,n", SIGNED),
-    (&[b"andi", b"ori", b"xori"], " $rt,$rs,n", UNSIGNED),
-    (&[b"lui"], " $rt,n", UNSIGNED),
-    (&[b"mfhi", b"mflo"], " $rd", NO_NUMBER),
-    (&[b"mult", b"multu", b"div", b"divu"], " $rs,$rt", NO_NUMBER),
-    (&[b"lw", b"lbu", b"sw", b"sb"], " $rt,n($base)", SIGNED),
-    (&[b"nop"], "", ALONE),
-];
-
-#[rattlefmt::skip]
-const EXITS: &[Form] = &[
-    (&[b"goto"], " T", BLOCKS),
-    (&[b"beq", b"bne"], " $s,$t,T,E", BLOCKS),
-    (&[b"blez", b"bgtz", b"bltz", b"bgez"], " $s,T,E", BLOCKS),
-    (&[b"call"], " F,N", BLOCKS),
-    (&[b"out"], " N", BLOCKS),
-    (&[b"return", b"halt"], "", ALONE),
-];
+/// Operands as they are shown, and what they may be.
+type Form = (&'static str, &'static str);
 
 /// What assemblers have and check texts haven't, with what to write.
 const OTHERS: &[(&[u8], &str)] = &[
@@ -84,37 +65,48 @@ enum Stage {
     Nothing,
 }
 
-/// Returns what stands before the first such byte, and what follows it.
-fn cut<'t>(text: &'t [u8], mark: u8) -> (&'t [u8], &'t [u8]) {
-    match text.iter().position(|byte| *byte == mark) {
-        Some(k) => (
-            text.get(..k).unwrap_or(text),
-            text.get(k.saturating_add(1)..).unwrap_or(b""),
-        ),
-        None => (text, b""),
-    }
-}
-
+/// Returns what stands before the first blank.
 fn mnemonic<'t>(line: &'t [u8]) -> &'t [u8] {
-    cut(line, b' ').0
+    match cut(line, b' ') {
+        Some(halves) => halves.before,
+        None => line,
+    }
 }
 
 fn shown_word<'t>(bytes: &'t [u8]) -> &'t str {
     str::from_utf8(bytes).unwrap_or("?")
 }
 
-/// Returns the operands of a mnemonic and what they may be, if a table has it.
-fn form(table: &[Form], word: &[u8]) -> Option<(&'static str, &'static str)> {
-    let found = table.iter().find(|row| row.0.contains(&word))?;
-    Some((found.1, found.2))
+/// Returns the form of an instruction that a word names.
+fn instruction(word: &[u8]) -> Option<Form> {
+    if word == b"nop".as_slice() {
+        return Some(("", ALONE));
+    }
+    Some(match mnemonic_named(word)? {
+        Mnemonic::Shift(_) => (" $rd,$rt,n", SMALL),
+        Mnemonic::ShiftBy(_) => (" $rd,$rt,$rs", NO_NUMBER),
+        Mnemonic::Alu(_) => (" $rd,$rs,$rt", NO_NUMBER),
+        Mnemonic::Imm(_) => (" $rt,$rs,n", SIGNED),
+        Mnemonic::Logic(_) => (" $rt,$rs,n", UNSIGNED),
+        Mnemonic::LoadUpper => (" $rt,n", UNSIGNED),
+        Mnemonic::MoveFrom(_) => (" $rd", NO_NUMBER),
+        Mnemonic::Multiply(_) | Mnemonic::Divide(_) => (" $rs,$rt", NO_NUMBER),
+        Mnemonic::Load(_) | Mnemonic::Store(_) => (" $rt,n($base)", SIGNED),
+    })
 }
 
-fn instruction(word: &[u8]) -> Option<(&'static str, &'static str)> {
-    form(INSTRUCTIONS, word)
-}
-
-fn exit(word: &[u8]) -> Option<(&'static str, &'static str)> {
-    form(EXITS, word)
+/// Returns the form of an exit that a word names.
+fn exit(word: &[u8]) -> Option<Form> {
+    if matches!(word, b"return" | b"halt") {
+        return Some(("", ALONE));
+    }
+    Some(match exit_named(word)? {
+        ExitName::Goto => (" T", BLOCKS),
+        ExitName::BranchPair(_) => (" $s,$t,T,E", BLOCKS),
+        ExitName::BranchZero(_) => (" $s,T,E", BLOCKS),
+        ExitName::Call => (" F,N", BLOCKS),
+        ExitName::Out => (" N", BLOCKS),
+    })
 }
 
 /// Returns what to write in place of a mnemonic that assemblers have and check texts haven't.
@@ -144,80 +136,65 @@ fn stage_at<'t>(text: &'t [u8], line: u32) -> (Stage, Option<&'t [u8]>) {
     let (mut stage, mut rest) = (Stage::Block, text);
     for _ in 1..line {
         if !rest.is_empty() {
-            let (first, after) = cut(rest, b'\n');
-            stage = stage_after(stage, first);
-            rest = after;
+            let halves = first_line(rest);
+            stage = stage_after(stage, halves.before);
+            rest = halves.after;
         }
     }
-    (stage, (!rest.is_empty()).then_some(cut(rest, b'\n').0))
+    if rest.is_empty() {
+        return (stage, None);
+    }
+    (stage, Some(first_line(rest).before))
 }
 
-/// Returns what is said of a line that should be an instruction or an exit.
-fn explain_instruction(alloc: Global, line: &[u8]) -> Result<Explanation, AllocError>
-    ensures { IfOk result IsPrintableExplanation }
-{
+/// Says what is wrong with a line that should be an instruction or an exit.
+fn say_instruction(said: &mut Said, line: &[u8]) {
     let word = mnemonic(line);
     if line.is_empty() {
-        return Explanation::new(alloc, "an empty line can't stand in a check text", None);
+        return said.say("an empty line can't stand in a check text");
     }
     if line.contains(&b'\t') {
-        return Explanation::new(
-            alloc,
-            "a line has a tab",
-            Some("write one space behind the mnemonic"),
-        );
+        return said.say_both("a line has a tab", "write one space behind the mnemonic");
     }
     match instruction(word).or(exit(word)) {
-        Some((operands, range)) => explain_operands(alloc, line, operands, range),
-        None => explain_unknown(alloc, word),
+        Some(form) => say_operands(said, line, form),
+        None => say_unknown(said, word),
     }
 }
 
-/// Returns what is said of a line whose mnemonic has these operands.
-fn explain_operands(
-    alloc: Global,
-    line: &[u8],
-    operands: &str,
-    range: &str,
-) -> Result<Explanation, AllocError>
-    ensures { IfOk result IsPrintableExplanation }
-{
+/// Says what is wrong with the operands of a line whose mnemonic has this form.
+fn say_operands(said: &mut Said, line: &[u8], form: Form) {
     if line.starts_with(b"lw $0,") || line.starts_with(b"lbu $0,") {
-        return Explanation::new(alloc, "register 0 can't be loaded", None);
+        return said.say("register 0 can't be loaded");
     }
     let word = mnemonic(line);
-    let name = shown_word(word);
-    let message = format!(in alloc; "expected {name}{operands}")?;
-    match hint_of_operands(alloc, word, line)? {
-        Some(hint) => Explanation::new(alloc, message.as_str(), Some(hint.as_str())),
-        None => Explanation::new(alloc, message.as_str(), Some(range)),
+    let (operands, range) = form;
+    said.say("expected ");
+    said.say(shown_word(word));
+    said.say(operands);
+    if !say_hint_of_operands(said, word, line) {
+        said.hint(range);
     }
 }
 
-fn explain_unknown(alloc: Global, word: &[u8]) -> Result<Explanation, AllocError>
-    ensures { IfOk result IsPrintableExplanation }
-{
-    let told = shown_word(word.get(..63).unwrap_or(word));
-    let message = format!(in alloc; "'{told}' is no instruction here")?;
-    Explanation::new(alloc, message.as_str(), other(word))
+/// Says that a word names nothing, and what to write in its place.
+fn say_unknown(said: &mut Said, word: &[u8]) {
+    said.say_name(
+        shown_word(&word[..word.len().min(SHOWN)]),
+        "is no instruction here",
+    );
+    if let Some(hint) = other(word) {
+        said.hint(hint);
+    }
 }
 
-/// Returns what is said of a line between the head of a block or an order and its exit.
-fn explain_inside(
-    alloc: Global,
-    line: &[u8],
-    before: usize,
-    most: usize,
-    part: &str,
-) -> Result<Explanation, AllocError>
-    ensures { IfOk result IsPrintableExplanation }
-{
+/// Says what is wrong with a line between the head of a block or an order and its exit.
+fn say_inside(said: &mut Said, line: &[u8], before: usize, most: usize, part: &str) {
     if before < most || instruction(mnemonic(line)).is_none() {
-        return explain_instruction(alloc, line);
+        return say_instruction(said, line);
     }
     let count = before.saturating_add(1);
-    let message = format!(in alloc; "{count} instructions in {part}: at most {most}")?;
-    Explanation::new(alloc, message.as_str(), None)
+    said.message.put(&format_args!("{count} instructions in {part}: at most {most}"));
 }
 
 /// Returns what has to stand at a stage.
@@ -231,23 +208,38 @@ fn expected_line(stage: Stage) -> &'static str {
     }
 }
 
-/// Returns what is said of a line, and what to do: where nothing is wanted there, or by how it begins or ends. Else it is None.
-fn fault_of(stage: Stage, line: &[u8]) -> Option<(&'static str, Option<&'static str>)> {
-    match (stage, line) {
-        (_, [.., b'\r']) => Some((
+/// Says what is wrong with how a line begins or ends, and with a carriage return in it. Reports whether it said something.
+fn say_blanks(said: &mut Said, line: &[u8]) -> bool {
+    if line.ends_with(b"\r") {
+        said.say_both(
             "the line ends with a carriage return",
-            Some("save the text with LF at the ends of its lines"),
-        )),
-        (_, [b' ' | b'\t', ..]) => Some(("a line begins with a blank", Some("leave it out"))),
-        _ if line.contains(&b'\r') => Some((
+            "save the text with LF at the ends of its lines",
+        );
+    } else if line.starts_with(b" ") || line.starts_with(b"\t") {
+        said.say_both("a line begins with a blank", "leave it out");
+    } else if line.contains(&b'\r') {
+        said.say_both(
             "a line has a carriage return",
-            Some("end each line by a line feed alone"),
-        )),
-        (Stage::InBlock(_) | Stage::InOrder(_), _) => None,
-        (Stage::Slot, [b's', b'l', b'o', b't', b' ', ..]) => None,
-        (Stage::NoSlot, [b's', b'l', b'o', b't', ..]) => Some(("out and halt have no slot", None)),
-        (Stage::NoSlot | Stage::Nothing, _) => Some(("nothing can stand behind the order", None)),
-        _ => Some((expected_line(stage), None)),
+            "end each line by a line feed alone",
+        );
+    } else {
+        return false;
+    }
+    true
+}
+
+/// Says what is wrong with a line at its stage.
+fn say_line(said: &mut Said, stage: Stage, line: &[u8]) {
+    match stage {
+        Stage::InBlock(before) => say_inside(said, line, before, BLOCK, "a block"),
+        Stage::InOrder(before) => say_inside(said, line, before, ORDER, "an order"),
+        Stage::Slot => match line.strip_prefix(b"slot ") {
+            Some(inst) => say_instruction(said, inst),
+            None => said.say(expected_line(stage)),
+        },
+        Stage::NoSlot if line.starts_with(b"slot") => said.say("out and halt have no slot"),
+        Stage::NoSlot | Stage::Nothing => said.say("nothing can stand behind the order"),
+        Stage::Block | Stage::Order => said.say(expected_line(stage)),
     }
 }
 
@@ -255,18 +247,15 @@ fn fault_of(stage: Stage, line: &[u8]) -> Option<(&'static str, Option<&'static 
 pub fn explain_line(alloc: Global, text: &[u8], line: u32) -> Result<Explanation, AllocError>
     ensures { IfOk result IsPrintableExplanation }
 {
-    let (stage, bytes) = stage_at(text, line);
-    let Some(bytes) = bytes else {
-        let wanted = expected_line(stage);
-        let message = format!(in alloc; "{wanted} at the text's end")?;
-        return Explanation::new(alloc, message.as_str(), None);
-    };
-    if let Some((message, hint)) = fault_of(stage, bytes) {
-        return Explanation::new(alloc, message, hint);
+    let mut said = Said::new(alloc);
+    let (stage, found) = stage_at(text, line);
+    if let Some(line) = found {
+        if !say_blanks(&mut said, line) {
+            say_line(&mut said, stage, line);
+        }
+    } else {
+        said.say(expected_line(stage));
+        said.say(" at the text's end");
     }
-    match stage {
-        Stage::InBlock(before) => explain_inside(alloc, bytes, before, BLOCK, "a block"),
-        Stage::InOrder(before) => explain_inside(alloc, bytes, before, ORDER, "an order"),
-        _ => explain_instruction(alloc, bytes.get(5..).unwrap_or(b"")),
-    }
+    said.end(alloc)
 }

@@ -1,7 +1,8 @@
 //! Hints about the operands of a line: what assemblers take and check texts don't.
 
-use std::alloc::{AllocError, Global};
+use block_text::cut;
 use std::str;
+use text::Said;
 
 /// Registers as assemblers name them, by their numbers; `$s8` is `$fp`.
 #[rattlefmt::skip]
@@ -27,10 +28,10 @@ const WITH_NUMBER: &[(&[u8], &str, i32, i32)] = &[
 
 /// Returns the number of a register that assemblers name so.
 fn register_number(operand: &[u8]) -> Option<usize> {
-    match operand {
-        b"$s8" => Some(30),
-        _ => REGISTERS.iter().position(|name| *name == operand),
+    if operand == b"$s8".as_slice() {
+        return Some(30);
     }
+    REGISTERS.iter().position(|name| *name == operand)
 }
 
 /// Returns the value of a number that is written in hexadecimal, and whether a minus stands before it.
@@ -48,60 +49,63 @@ fn hexadecimal(operand: &[u8]) -> Option<(bool, u32)> {
     }
 }
 
-/// Says what is wrong with an operand that an assembler takes.
-fn hint_of_operand(alloc: Global, operand: &[u8]) -> Result<Option<String>, AllocError> {
+/// Says what is wrong with an operand that an assembler takes. Reports whether it said something.
+fn say_hint_of_operand(said: &mut Said, operand: &[u8]) -> bool {
     if let Some(number) = register_number(operand) {
         let name = str::from_utf8(operand).unwrap_or("?");
-        return Ok(Some(format!(in alloc; "{name} is ${number}")?));
+        said.hint.put(&format_args!("{name} is ${number}"));
+        return true;
     }
     if let Some((is_negative, value)) = hexadecimal(operand) {
         let sign = if is_negative { "-" } else { "" };
-        return Ok(Some(format!(in alloc; "numbers are decimal: {sign}{value}")?));
+        said.hint
+            .put(&format_args!("numbers are decimal: {sign}{value}"));
+        return true;
     }
-    Ok(None)
+    false
 }
 
-/// Returns the operands of a line, as commas and parentheses part them.
-fn operands_of<'t>(alloc: Global, line: &'t [u8]) -> Result<Vec<&'t [u8]>, AllocError> {
-    let mut operands = Vec::new(alloc);
-    let mut start = line.len();
-    for (k, byte) in line.iter().enumerate() {
-        if *byte == b' ' && start == line.len() {
-            start = k.saturating_add(1);
-        } else if matches!(byte, b',' | b'(' | b')') {
-            operands.push(line.get(start..k).unwrap_or(b""))?;
-            start = k.saturating_add(1);
+/// Returns the first operand, as commas and parentheses part them, and what follows it.
+fn first_operand<'t>(operands: &'t [u8]) -> (&'t [u8], &'t [u8]) {
+    for (k, byte) in operands.iter().enumerate() {
+        if matches!(byte, b',' | b'(' | b')') {
+            return (&operands[..k], &operands[k + 1..]);
         }
     }
-    operands.push(line.get(start..).unwrap_or(b""))?;
-    Ok(operands)
+    (operands, b"")
 }
 
 /// Returns the instruction that takes the number that stands in place of a third register.
-fn with_number(word: &[u8], operands: &[&[u8]]) -> Option<&'static str> {
-    let [_, _, last] = operands else { return None };
-    let number = str::from_utf8(*last).ok()?.parse::<i32>().ok()?;
+fn with_number(word: &[u8], operands: &[u8]) -> Option<&'static str> {
+    let (_, others) = first_operand(operands);
+    let (_, last) = first_operand(others);
+    let number = str::from_utf8(last).ok()?.parse::<i32>().ok()?;
     let found = WITH_NUMBER
         .iter()
         .find(|row| row.0 == word && row.2 <= number && number <= row.3)?;
     Some(found.1)
 }
 
-/// Returns what to write in place of a line with this mnemonic, where one of its operands is an assembler's.
-pub(crate) fn hint_of_operands(
-    alloc: Global,
-    word: &[u8],
-    line: &[u8],
-) -> Result<Option<String>, AllocError> {
-    let operands = operands_of(alloc, line)?;
-    for operand in &operands {
-        if let Some(hint) = hint_of_operand(alloc, *operand)? {
-            return Ok(Some(hint));
-        }
-    }
-    let Some(other) = with_number(word, operands.as_slice()) else {
-        return Ok(None);
+/// Says what to write in place of a line with this mnemonic, where one of its operands is an assembler's. Reports whether it said something.
+pub(crate) fn say_hint_of_operands(said: &mut Said, word: &[u8], line: &[u8]) -> bool {
+    let Some(halves) = cut(line, b' ') else {
+        return false;
     };
-    let rest = str::from_utf8(line.get(word.len()..).unwrap_or(b"")).unwrap_or("");
-    Ok(Some(format!(in alloc; "write {other}{rest}")?))
+    let mut rest = halves.after;
+    for _ in 0..line.len() {
+        if rest.is_empty() {
+            break;
+        }
+        let (operand, others) = first_operand(rest);
+        if say_hint_of_operand(said, operand) {
+            return true;
+        }
+        rest = others;
+    }
+    let Some(other) = with_number(word, halves.after) else {
+        return false;
+    };
+    let operands = str::from_utf8(halves.after).unwrap_or("");
+    said.hint.put(&format_args!("write {other} {operands}"));
+    true
 }

@@ -100,15 +100,28 @@ fn put_operands(out: &mut Writer, operands: &[Page], between: &str) {
     out.text(")");
 }
 
-/// Writes a term of a label and its operands, the last of which stands first. The label stands before them, or as a sign between them.
-fn put_term(out: &mut Writer, label: &Label, operands: &[Page]) {
-    match infix(label) {
-        Some(sign) => put_operands(out, operands, sign),
-        None => {
-            put_label(out, label);
-            put_operands(out, operands, ", ");
-        }
+fn cut_page(alloc: Global) -> Result<Page, AllocError> {
+    let mut out = Writer::new(alloc);
+    out.text(CUT);
+    out.end()
+}
+
+fn label_page(alloc: Global, label: &Label) -> Result<Page, AllocError> {
+    let mut out = Writer::new(alloc);
+    put_label(&mut out, label);
+    out.end()
+}
+
+/// Returns a term of a label and its operands, the last of which stands first. The label stands before them, or as a sign between them.
+fn term_page(alloc: Global, label: &Label, operands: &[Page]) -> Result<Page, AllocError> {
+    let mut out = Writer::new(alloc);
+    if let Some(sign) = infix(label) {
+        put_operands(&mut out, operands, sign);
+    } else {
+        put_label(&mut out, label);
+        put_operands(&mut out, operands, ", ");
     }
+    out.end()
 }
 
 /// Returns the term that is next, cut at a depth, and where so many parts were shown.
@@ -118,25 +131,22 @@ fn next_page(
     depth: u32,
     left: &mut u32,
 ) -> Result<Page, AllocError> {
-    let mut out = Writer::new(alloc);
     let Some((label, count)) = reader.next()? else {
-        out.text(CUT);
-        return out.end();
+        return cut_page(alloc);
     };
     if count == 0 {
-        put_label(&mut out, &label);
-    } else if depth == 0 || *left == 0 {
-        reader.skip(count);
-        out.text(CUT);
-    } else {
-        *left = left.saturating_sub(1);
-        let mut operands = Vec::new(alloc);
-        for _ in 0..count {
-            operands.push(next_page(alloc, reader, depth - 1, left)?)?;
-        }
-        put_term(&mut out, &label, operands.as_slice());
+        return label_page(alloc, &label);
     }
-    out.end()
+    if depth == 0 || *left == 0 {
+        reader.skip(count);
+        return cut_page(alloc);
+    }
+    *left = left.saturating_sub(1);
+    let mut operands = Vec::new(alloc);
+    for _ in 0..count {
+        operands.push(next_page(alloc, reader, depth - 1, left)?)?;
+    }
+    term_page(alloc, &label, operands.as_slice())
 }
 
 /// Returns a root's term, cut at a depth; empty where there is no such root.

@@ -11,7 +11,7 @@ use std::alloc::{AllocError, Global};
 use text::{Page, Writer};
 
 /// How deep terms are shown: the least that tells them apart, or the deepest.
-const DEPTHS: [u32; 6] = [4, 6, 8, 12, 16, DEEPEST];
+const DEPTHS: &[u32] = &[4, 6, 8, 12, 16, DEEPEST];
 
 const DEEPEST: u32 = 24;
 
@@ -120,6 +120,33 @@ fn page_at(
 }
 
 /// Writes what block and order leave in a place, at the first depth that tells them apart.
+fn put_apart(
+    alloc: Global,
+    out: &mut Writer,
+    place: &Place,
+    block: &mut Option<Left>,
+    order: &mut Option<Left>,
+) -> Result<(), AllocError> {
+    for depth in DEPTHS {
+        let one = page_at(alloc, block, place, *depth)?;
+        let other = page_at(alloc, order, place, *depth)?;
+        if one.bytes() != other.bytes() || *depth == DEEPEST {
+            put_pages(out, &one, &other);
+            break;
+        }
+    }
+    Ok(())
+}
+
+fn put_pages(out: &mut Writer, block: &Page, order: &Page) {
+    out.text("block: ");
+    out.page(block);
+    out.text("\norder: ");
+    out.page(order);
+    out.text("\n");
+}
+
+/// Writes the terms that block and order leave in a place.
 fn put_terms(
     alloc: Global,
     out: &mut Writer,
@@ -129,19 +156,7 @@ fn put_terms(
 ) -> Result<(), AllocError> {
     let mut first = left_of(alloc, Code::Block(block))?;
     let mut second = left_of(alloc, Code::Order(order))?;
-    for depth in DEPTHS {
-        let one = page_at(alloc, &mut first, place, depth)?;
-        let other = page_at(alloc, &mut second, place, depth)?;
-        if one.bytes() != other.bytes() || depth == DEEPEST {
-            out.text("block: ");
-            out.page(&one);
-            out.text("\norder: ");
-            out.page(&other);
-            out.text("\n");
-            break;
-        }
-    }
-    Ok(())
+    put_apart(alloc, out, place, &mut first, &mut second)
 }
 
 /// Writes what block and order leave in a place where they differ, and a start that refutes the order.
