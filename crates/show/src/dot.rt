@@ -15,24 +15,29 @@ fn put_edge(
     style: &str,
     is_back: bool,
 ) {
-    let Some(node) = place.and_then(|place| nodes.get(place)) else {
-        return;
-    };
     let bold = if is_back {
         " penwidth=2 color=blue"
     } else {
         ""
     };
-    out.put(&format_args!("    b{from} -> b{}{style}{bold}];\n", node.number));
+    if let Some(place) = place
+        && let Some(node) = nodes.get(place)
+    {
+        out.put(&format_args!("    b{from} -> b{}{style}{bold}];\n", node.number));
+    }
+}
+
+/// Returns the place of a block among a function's, the first of which has this number.
+fn place(block: BlockNumber, first: usize) -> Option<usize> {
+    Some((block.number() as usize).saturating_sub(first))
 }
 
 /// Returns the places of the blocks to which an exit leads, among a function's, the first of which has this number.
 pub(crate) fn exit_places(exit: Exit, first: usize) -> Edges {
-    let place = |block: BlockNumber| Some((block.number() as usize).saturating_sub(first));
     match exit {
-        Exit::Goto(next) | Exit::Call { next, .. } | Exit::Out(next) => [place(next), None],
+        Exit::Goto(next) | Exit::Call { next, .. } | Exit::Out(next) => [place(next, first), None],
         Exit::BranchPair { then, other, .. } | Exit::BranchZero { then, other, .. } => {
-            [place(then), place(other)]
+            [place(then, first), place(other, first)]
         }
         Exit::Return | Exit::Halt => [None, None],
     }

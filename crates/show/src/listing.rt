@@ -48,7 +48,7 @@ impl<'a> View<'a> {
         orders: &[Order],
     ) {
         let range = self.range(number);
-        let is_shown = self.wanted.only.is_none_or(|only| only == number);
+        let is_shown = !matches!(self.wanted.only, Some(only) if only != number);
         if is_shown {
             put_title(out, &self.names, number);
         }

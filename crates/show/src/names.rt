@@ -96,14 +96,18 @@ impl<'t> Names<'t> {
 
     /// Returns the name of a function; `?` where there is none of this number.
     pub(crate) fn function(&self, number: usize) -> &'t str {
-        let function = self.functions.get(number);
-        function.map_or("?", |function| self.spelling(function.name))
+        match self.functions.get(number) {
+            Some(function) => self.spelling(function.name),
+            None => "?",
+        }
     }
 
     /// Returns the name of a global.
     pub(crate) fn global(&self, number: usize) -> &'t str {
-        let name = self.globals.get(number);
-        name.map_or("?", |name| self.spelling(*name))
+        match self.globals.get(number) {
+            Some(name) => self.spelling(*name),
+            None => "?",
+        }
     }
 
     /// Returns the number of the function of this name.

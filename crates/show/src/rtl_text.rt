@@ -47,8 +47,7 @@ impl<'a> RtlView<'a> {
     }
 
     fn is_array(&self, global: u32) -> bool {
-        let global = self.globals.get(global as usize);
-        global.is_none_or(|global| global.length > 1)
+        !matches!(self.globals.get(global as usize), Some(global) if global.length <= 1)
     }
 
     /// Writes an element of a global; a variable by its name alone.
@@ -85,8 +84,10 @@ impl<'a> RtlView<'a> {
 
     /// Returns the number that a block has in all stages.
     pub(crate) fn number(&self, block: usize) -> usize {
-        let number = self.numbers.get(block);
-        number.map_or(0, |number| number.number() as usize)
+        match self.numbers.get(block) {
+            Some(number) => number.number() as usize,
+            None => 0,
+        }
     }
 
     fn call(&self, out: &mut Writer, function: u32, arguments: &[Register], to: Option<Register>) {

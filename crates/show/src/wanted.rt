@@ -150,7 +150,7 @@ impl Wanted {
 
     /// Reports whether the block of this number is shown.
     pub(crate) fn has_block(&self, number: usize) -> bool {
-        self.block.is_none_or(|only| only == number)
+        !matches!(self.block, Some(only) if only != number)
     }
 
     /// Returns the block of a check text: the one that is named, or the function's first, or the first of all.
