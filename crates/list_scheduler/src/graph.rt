@@ -63,15 +63,18 @@ impl Graph {
             let Some(read) = at.number() else {
                 break;
             };
-            let reader = read / 2;
-            let Some(node) = self.nodes.get_mut(reader as usize) else {
-                break;
-            };
-            self.height = self.height.max(node.follow(words));
-            at = node.readers[(read % 2) as usize];
-            self.lists.push(reader)?;
+            at = self.reader_after(read);
+            self.put_before(read / 2, words)?;
         }
         Ok(())
+    }
+
+    /// Returns the next reader of what a reader reads.
+    fn reader_after(&self, read: u32) -> Link {
+        match self.nodes.get((read / 2) as usize) {
+            Some(node) => node.readers[(read % 2) as usize],
+            None => Link::NONE,
+        }
     }
 
     /// Puts it before the next readers of a register, or before the next writer, which waits for those.
