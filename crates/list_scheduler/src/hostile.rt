@@ -11,7 +11,7 @@ use words::Width;
 /// A scheduler that changes a block's plain order, in a way that few blocks stand. It's for those who test a validator, or what takes
 /// orders from one. Whatever is proposed, a block may get no order that doesn't mean it. Where a block has nothing to change in this way,
 /// the plain order is proposed.
-#[derive(Clone, Copy, Debug, PartialEq, Eq)]
+#[derive(Clone, Copy, Debug)]
 pub enum Hostile {
     /// The last instruction that isn't a Nop is left out.
     Drop,
@@ -88,7 +88,7 @@ fn change_insts(alloc: Global, kind: Hostile, insts: &[Plain]) -> Result<Vec<Pla
 }
 
 fn change_exit(kind: Hostile, mut exit: Exit) -> Exit {
-    if kind == Hostile::Exit {
+    if matches!(kind, Hostile::Exit) {
         match &mut exit {
             Exit::BranchPair { then, other, .. } => swap(then, other),
             Exit::BranchZero { then, other, .. } => swap(then, other),

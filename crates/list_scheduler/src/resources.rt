@@ -4,7 +4,7 @@ use mblock::Exit;
 use mips_isa::{Plain, Reg};
 
 /// A set of registers, HI and LO. Register 0 is in none: it reads as 0 and keeps nothing.
-#[derive(Clone, Copy, Debug, PartialEq, Eq)]
+#[derive(Clone, Copy)]
 pub struct Resources(
     // One bit for each register by its number, then HI and LO.
     u64,
