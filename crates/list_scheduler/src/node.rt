@@ -29,15 +29,12 @@ pub struct Facts {
 fn uses(inst: &Plain) -> (Resources, Resources, Memory) {
     match *inst {
         Plain::Shift { rd, rt, .. } => (Resources::of(rt), Resources::of(rd), Memory::Apart),
-        Plain::ShiftBy { rd, rt, rs, .. } => (Resources::of_both(rs, rt), Resources::of(rd), Memory::Apart),
-        Plain::Alu { rd, rs, rt, .. } => (Resources::of_both(rs, rt), Resources::of(rd), Memory::Apart),
-        Plain::Imm { rt, rs, .. } => (Resources::of(rs), Resources::of(rt), Memory::Apart),
-        Plain::Logic { rt, rs, .. } => (Resources::of(rs), Resources::of(rt), Memory::Apart),
+        Plain::ShiftBy { rd, rt, rs, .. } | Plain::Alu { rd, rs, rt, .. } => (Resources::of_both(rs, rt), Resources::of(rd), Memory::Apart),
+        Plain::Imm { rt, rs, .. } | Plain::Logic { rt, rs, .. } => (Resources::of(rs), Resources::of(rt), Memory::Apart),
         Plain::LoadUpper { rt, .. } => (Resources::NONE, Resources::of(rt), Memory::Apart),
         Plain::MoveFrom { place: HiLo::Hi, rd } => (Resources::HIGH, Resources::of(rd), Memory::Apart),
         Plain::MoveFrom { place: HiLo::Lo, rd } => (Resources::LOW, Resources::of(rd), Memory::Apart),
-        Plain::Multiply { rs, rt, .. } => (Resources::of_both(rs, rt), Resources::PRODUCT, Memory::Apart),
-        Plain::Divide { rs, rt, .. } => (Resources::of_both(rs, rt), Resources::PRODUCT, Memory::Apart),
+        Plain::Multiply { rs, rt, .. } | Plain::Divide { rs, rt, .. } => (Resources::of_both(rs, rt), Resources::PRODUCT, Memory::Apart),
         Plain::Load { rt, base, .. } => (Resources::of(base), Resources::of(rt.reg()), Memory::Loads),
         Plain::Store { rt, base, .. } => (Resources::of_both(rt, base), Resources::NONE, Memory::Stores),
     }
@@ -179,7 +176,8 @@ pub fn keep_needed(alloc: Global, insts: &[Plain]) -> Result<Kept, AllocError> {
     let mut wanted = Resources::ALL;
     let (mut has_load, mut has_late_load) = (false, false);
     let (mut has_store, mut has_ties) = (false, false);
-    for inst in insts.iter().rev() {
+    for k in (0..insts.len()).rev() {
+        let inst = &insts[k];
         let facts = Facts::of(inst);
         if facts.are_needed(wanted) {
             wanted = facts.wanted_before(wanted);

@@ -101,7 +101,7 @@ fn meets_store(load: &Access, before: &[Plain]) -> bool {
 
 /// Reports whether an instruction makes a product.
 fn is_product(inst: Option<&Plain>) -> bool {
-    inst.is_some_and(|inst| inst.action().is_product())
+    matches!(inst, Some(inst) if inst.action().is_product())
 }
 
 /// Reports whether an order keeps the delay rules without instruction k, if it keeps them with it. Only the words around k come nearer to
@@ -121,7 +121,7 @@ fn may_leave(order: &Order, k: usize) -> bool {
     if facts.loads() && facts.writes.meets(touched) {
         return false;
     }
-    let moves_earlier = earlier.last().is_some_and(|inst| inst.action().is_move());
+    let moves_earlier = matches!(earlier.last(), Some(inst) if inst.action().is_move());
     !(facts.moves() && is_product(after.get(1))) && !(moves_earlier && is_product(after.first()))
 }
 
