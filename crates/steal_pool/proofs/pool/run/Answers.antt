@@ -41,3 +41,31 @@ do_all-requires-clause-ready g c κs within =
     let D : ℕ × g.row.J-Out.Denot → Type 0 = λ d. g.J.Job.right c.args.job.now d.0 d.1 in
     let S : Station g.row.J-Out.Denot → Type 0 = λ s. IsMember s.member × P s.pass × All D s.done.items in
     All-same S _ _ c.as_mut_slice.ensures.value c.stations-stations.ensures
+
+pub stations-stations-requires-clause-suits : goal.stations-stations-requires-clause-suits
+stations-stations-requires-clause-suits g c κs within = c.requires.suits
+
+pub put_done-requires-clause-so_far : goal.put_done-requires-clause-so_far
+put_done-requires-clause-so_far g c κs within = c.loop-station.invariant.2
+
+-- nothing is noted of an unmarked member's deque
+pub members-requires-clause-begins : goal.members-requires-clause-begins
+members-requires-clause-begins g c = tt
+
+pub members-requires-clause-puts : goal.members-requires-clause-puts
+members-requires-clause-puts g c xs items views port v real at puts = tt
+
+pub members-requires-clause-shares : goal.members-requires-clause-shares
+members-requires-clause-shares g c items views port v real at = tt
+
+pub returns-clause-len : goal.returns-clause-len
+returns-clause-len g c = c.loop-station.invariant.1
+
+pub returns-clause-right : goal.returns-clause-right
+returns-clause-right g c = c.loop-station.invariant.2
+
+pub returns-then-count-eq0-clause-right : goal.returns-then-count-eq0-clause-right
+returns-then-count-eq0-clause-right g c = nothing_placed (g.J.Job.right c.args.job.now) c.nones-all.result.items c.nones-all.ensures.none
+
+pub returns-in_default-clause-right : goal.returns-in_default-clause-right
+returns-in_default-clause-right g c = nothing_placed (g.J.Job.right c.args.job.now) c.nones-all.result.items c.nones-all.ensures.none
