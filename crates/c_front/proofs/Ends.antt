@@ -1,5 +1,5 @@
 -- What is known of a part is known of it with the mark behind it, and in a box.
-use Rattle.std.proofs.Common.{◌≡◌, ◌<◌, List, length, Result, Ok, Err, IfOk, IfErr, IsErrAnd, inl, inr, refl, ap, arith, [], ◌∷◌, ◌++◌}
+use Rattle.std.proofs.Common.{◌≡◌, List, Result, Ok, Err, IfOk, IfErr, IsErrAnd, inl, inr, refl, [], ◌∷◌, ◌++◌}
 use Rattle.std.specs.Borrow.{Bor}
 use Rattle.std.proofs.lemmas.Result.{IfOk-at_ok, IfErr-at_err}
 use Rattle.c_tokens.specs.declared.token.Mark.{Mark}
@@ -30,10 +30,6 @@ plain-ended {x = x} {ts = ts} u r (rest, e, m) =
     (same.0, rw same.1 m)
 
 module _ {A : Type 0} (parsed : Parsed A) (u : Mark) where
-  pub ended-shorter : (ts : List Token) (r : A × Bor (List Token)) → IsEnded parsed u r → IfOk parsed (λ p. length p.1.now < length ts)
-      → length r.1.now < length ts
-  ended-shorter ts r (rest, e, m) h = let part : length rest.now < length ts = IfOk-at_ok _ e h in omega (arith, ap length m, part)
-
   pub unended : (wanted : List Symbol) (ts : List Token) (tree : (A × Bor (List Token)) → PhraseTrees wanted) (s : ParseStop) → IsUnended parsed u s
       → IfOk parsed (λ p. Reads wanted ts p.1.now (tree p)) → IfErr parsed (AreStuck wanted ts) → AreStuck (wanted ++ T (the u) ∷ []) ts s
   unended wanted ts tree s (inl e) h k = within _ (IfErr-at_err _ e k)

@@ -3,7 +3,7 @@ use Rattle.std.proofs.Common.{◌<◌, ◌≤◌, arith, length, ◌≡◌, ◌�
 use Rattle.c_tokens.specs.declared.token.Token.{Token}
 use Rattle.c_tokens.specs.declared.token.Token.TheVariants.{Name, Jump, The, Constant}
 use Rattle.c_tokens.specs.declared.token.Mark.TheVariants.{Unsigned, Else, Minus}
-use Rattle.c_front.specs.Grammar.{parameters, parameters_some, Sort, a_name, a_constant, a_jump, the, unary_expressions, Nonterminal, a_declaration}
+use Rattle.c_front.specs.Grammar.{parameters, parameters_some, an_item, item_declare, item_statement, statement_simple, Sort, a_name, a_constant, a_jump, the, unary_expressions, Nonterminal, a_declaration}
 use Rattle.c_front.specs.Grammar.{a_type, a_statement, else_part, simple, value, a_call, an_expression, operands, Symbol, T, N, SortTree, PhraseTrees}
 use Rattle.c_front.specs.Grammar.{Rule, declaration_typed, else_none, simple_call, value_plain, value_call, expression_rule, operands_rule, tree_of}
 use Rattle.c_front.specs.Grammar.{first, second, MayPrecede, IsToken, is_name, Derives, nothing, token, phrase}
@@ -44,8 +44,12 @@ stuck-within _ = omega arith
 
 -- some phrases that have a token at least
 abbrev Takes : Nonterminal → Type 0
+Takes a_declaration = Unit {0}
 Takes a_type = Unit {0}
 Takes parameters = Unit {0}
+Takes an_item = Unit {0}
+Takes a_statement = Unit {0}
+Takes simple = Unit {0}
 Takes a_call = Unit {0}
 Takes an_expression = Unit {0}
 Takes (operands l) = Unit {0}
@@ -53,11 +57,20 @@ Takes _ = ⊥
 
 pub takes : {n : Nonterminal} {symbols : List Symbol} {ts rest : List Token} {m : PhraseTrees (N n ∷ symbols)} → Takes n → Reads (N n ∷ symbols) ts rest m
     → length rest < length ts
+takes h (read_phrase declaration_typed c d e d') = let a = takes tt d in let b = reads-within d' in omega (arith, a, b)
+takes h (read_phrase parameters_some c d e d') = let a = takes tt d in let b = reads-within d' in omega (arith, a, b)
+takes h (read_phrase item_declare c d e d') = let a = takes tt d in let b = reads-within d' in omega (arith, a, b)
+takes h (read_phrase item_statement c d e d') = let a = takes tt d in let b = reads-within d' in omega (arith, a, b)
+takes h (read_phrase statement_simple c d e d') = let a = takes tt d in let b = reads-within d' in omega (arith, a, b)
+takes h (read_phrase simple_call c d e d') = let a = takes tt d in let b = reads-within d' in omega (arith, a, b)
 takes h (read_phrase expression_rule c d e d') = let a = takes tt d in let b = reads-within d' in omega (arith, a, b)
 takes h (read_phrase operands_rule c d e d') = let a = takes tt d in let b = reads-within d' in omega (arith, a, b)
-takes h (read_phrase parameters_some c d e d') = let a = takes tt d in let b = reads-within d' in omega (arith, a, b)
 takes h (read_phrase _ c (read_token i d) e d') = let a = reads-within d in let b = reads-within d' in omega (arith, a, b)
 takes h (read_phrase _ c d e d') = absurd h
+
+pub takes-token : {s : Sort} {symbols : List Symbol} {ts rest : List Token} {m : PhraseTrees (T s ∷ symbols)} → Reads (T s ∷ symbols) ts rest m
+    → length rest < length ts
+takes-token (read_token i d) = let a = reads-within d in omega (arith, a)
 
 -- a phrase for which the second token has a say has a token at least
 pub peeked : {n : Nonterminal} {inner : List Symbol} {ts middle : List Token} {m : PhraseTrees inner} (r : Rule n inner) → Peeks n (first ts)

@@ -1,5 +1,5 @@
 //! Declarations at file scope: variables, arrays and functions (C99 6.7, 6.9).
-ghost use Rattle.std.specs.Prelude.{◌≡◌, ◌<◌, length, IfOk, IfErr, List};
+ghost use Rattle.std.specs.Prelude.{◌≡◌, IfOk, IfErr, List};
 ghost use Rattle.c_front.specs.Grammar.{Spells, initial, parameters, function_rest, after_global, a_declaration, a_program};
 ghost use Rattle.c_tree.specs.Shape.{declaration_of, declarations_of};
 ghost use Rattle.c_front.specs.Parsing.{IsRead, IsStuck, IsParameterRead, IsParameterStuck, IsTailRead, IsLengthRead};
@@ -21,7 +21,6 @@ use words::Width;
 /// Parses the first value of a global variable.
 fn initial<'a>(tokens: &'a [Token]) -> Parsed<'a, Initial>
     ensures ok { IfOk result (λ r. IsRead initial tokens.now r.1.now r.0) }
-    ensures shorter { IfOk result (λ r. length r.1.now < length tokens.now) }
     ensures err { IfErr result (IsStuck initial tokens.now) }
 {
     match starts(tokens, Mark::Minus) {
@@ -51,7 +50,6 @@ fn initial<'a>(tokens: &'a [Token]) -> Parsed<'a, Initial>
 /// Parses a parameter: its type and its name.
 fn parameter<'a>(tokens: &'a [Token]) -> Parsed<'a, Parameter>
     ensures ok { IfOk result (λ r. IsParameterRead tokens.now r.1.now r.0) }
-    ensures shorter { IfOk result (λ r. length r.1.now < length tokens.now) }
     ensures err { IfErr result (IsParameterStuck tokens.now) }
 {
     let Some((integer_type, after)) = integer_type(tokens) else {
@@ -64,13 +62,12 @@ fn parameter<'a>(tokens: &'a [Token]) -> Parsed<'a, Parameter>
 /// Parses `void`, or the parameters of a function.
 fn parameters<'a>(alloc: Global, tokens: &'a [Token]) -> Parsed<'a, Vec<Parameter>>
     ensures ok { IfOk result (λ r. IsRead parameters tokens.now r.1.now r.0.items) }
-    ensures shorter { IfOk result (λ r. length r.1.now < length tokens.now) }
     ensures err { IfErr result (IsStuck parameters tokens.now) }
 {
-    let mut all = Vec::new(alloc);
     if let Some(end) = starts(tokens, Mark::Void) {
-        return Ok((all, end));
+        return Ok((Vec::new(alloc), end));
     }
+    let mut all = Vec::new(alloc);
     let mut rest = push_part(&mut all, parameter(tokens))?;
     'more: while let Some(after) = starts(rest, Mark::Comma) {
         rest = push_part(&mut all, parameter(after))?;
@@ -87,7 +84,6 @@ fn function<'a>(
 ) -> Parsed<'a, Declaration>
     ensures ok { IfOk result (λ r. (ps : _) × (is : _) × IsRead function_rest tokens.now r.1.now (ps, is)
         × (declaration_of r.0 ≡ function gives name ps is)) }
-    ensures shorter { IfOk result (λ r. length r.1.now < length tokens.now) }
     ensures err { IfErr result (IsStuck function_rest tokens.now) }
 {
     let open = expect(tokens, Mark::LeftParen)?;
@@ -114,7 +110,6 @@ fn array<'a>(
 ) -> Parsed<'a, Declaration>
     ensures ok { IfOk result (λ r. (n : Literal) × IsLengthRead tokens.now r.1.now n
         × (declaration_of r.0 ≡ array width integer_type name n)) }
-    ensures shorter { IfOk result (λ r. length r.1.now < length tokens.now) }
     ensures err { IfErr result (IsLengthStuck tokens.now) }
 {
     let closed = expect_after(literal(tokens), Mark::RightBracket);
@@ -130,7 +125,6 @@ fn after_global<'a>(
     tokens: &'a [Token],
 ) -> Parsed<'a, Declaration>
     ensures ok { IfOk result (λ r. IsTailRead integer_type name tokens.now r.1.now (declaration_of r.0)) }
-    ensures shorter { IfOk result (λ r. length r.1.now < length tokens.now) }
     ensures err { IfErr result (IsStuck after_global tokens.now) }
 {
     if let Some(end) = starts(tokens, Mark::Semicolon) {
@@ -149,7 +143,6 @@ fn after_global<'a>(
 /// Parses a declaration at file scope.
 fn declaration<'a>(alloc: Global, tokens: &'a [Token]) -> Parsed<'a, Declaration>
     ensures ok { IfOk result (λ r. IsRead a_declaration tokens.now r.1.now (declaration_of r.0)) }
-    ensures shorter { IfOk result (λ r. length r.1.now < length tokens.now) }
     ensures err { IfErr result (IsStuck a_declaration tokens.now) }
 {
     if let Some(after) = starts(tokens, Mark::Void) {

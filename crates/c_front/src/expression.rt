@@ -1,5 +1,5 @@
 //! Expressions, level by level of precedence (C99 6.5).
-ghost use Rattle.std.specs.Prelude.{◌<◌, length, IfOk, IfErr, IfSome, IfNone, Some};
+ghost use Rattle.std.specs.Prelude.{IfOk, IfErr, IfSome, IfNone, Some};
 ghost use Rattle.c_front.specs.Grammar.{an_expression, operands, unary_expressions, Level, Operator, Prefix, first, value};
 ghost use Rattle.c_front.specs.Grammar.{arguments};
 ghost use Rattle.c_front.specs.Choosing.{EndsOperands};
@@ -78,7 +78,6 @@ fn prefix_of(mark: Mark) -> Option<UnaryOp>
 #[cycle(expressions)]
 pub fn expression<'a>(alloc: Global, tokens: &'a [Token]) -> Parsed<'a, Expression>
     ensures ok { IfOk result (λ r. IsRead an_expression tokens.now r.1.now (expression_of r.0)) }
-    ensures shorter { IfOk result (λ r. length r.1.now < length tokens.now) }
     ensures err { IfErr result (IsStuck an_expression tokens.now) }
 {
     let (condition, rest) = operands(alloc, 10, tokens)?;
@@ -99,7 +98,6 @@ fn choice<'a>(
     tokens: &'a [Token],
 ) -> Result<(Expression, Expression, &'a [Token]), ParseStop<'a>>
     ensures ok { IfOk result (λ r. IsChoiceRead tokens.now r.2.now (expression_of r.0) (expression_of r.1)) }
-    ensures shorter { IfOk result (λ r. length r.2.now < length tokens.now) }
     ensures err { IfErr result (IsChoiceStuck tokens.now) }
 {
     let (first, rest) = closed_expression(alloc, tokens, Mark::Colon)?;
@@ -115,7 +113,6 @@ pub fn closed_expression<'a>(
     closing: Mark,
 ) -> Parsed<'a, Expression>
     ensures ok { IfOk result (λ r. IsEndedRead an_expression closing tokens.now r.1.now (expression_of r.0)) }
-    ensures shorter { IfOk result (λ r. length r.1.now < length tokens.now) }
     ensures err { IfErr result (IsEndedStuck an_expression closing tokens.now) }
 {
     expect_after(expression(alloc, tokens), closing)
@@ -125,7 +122,6 @@ pub fn closed_expression<'a>(
 #[cycle(expressions)]
 fn operands<'a>(alloc: Global, level: usize, tokens: &'a [Token]) -> Parsed<'a, Expression>
     ensures ok { IfOk result (λ r. IsRead (operands (level_of level)) tokens.now r.1.now (expression_of r.0)) }
-    ensures shorter { IfOk result (λ r. length r.1.now < length tokens.now) }
     ensures ends { IfOk result (λ r. EndsBelow level (first r.1.now)) }
     ensures err { IfErr result (IsStuck (operands (level_of level)) tokens.now) }
 {
@@ -150,7 +146,6 @@ fn operands<'a>(alloc: Global, level: usize, tokens: &'a [Token]) -> Parsed<'a, 
 #[cycle(expressions)]
 fn operand<'a>(alloc: Global, tokens: &'a [Token]) -> Parsed<'a, Expression>
     ensures ok { IfOk result (λ r. IsRead (operands unary_expressions) tokens.now r.1.now (expression_of r.0)) }
-    ensures shorter { IfOk result (λ r. length r.1.now < length tokens.now) }
     ensures err { IfErr result (IsStuck (operands unary_expressions) tokens.now) }
 {
     let Some((token, rest)) = split(tokens) else {
@@ -183,13 +178,12 @@ fn operand<'a>(alloc: Global, tokens: &'a [Token]) -> Parsed<'a, Expression>
 /// Parses arguments and their closing parenthesis.
 pub fn arguments<'a>(alloc: Global, tokens: &'a [Token]) -> Parsed<'a, Vec<Expression>>
     ensures ok { IfOk result (λ r. IsEndedRead arguments RightParen tokens.now r.1.now (expressions_of r.0.items)) }
-    ensures shorter { IfOk result (λ r. length r.1.now < length tokens.now) }
     ensures err { IfErr result (IsEndedStuck arguments RightParen tokens.now) }
 {
-    let mut all = Vec::new(alloc);
     if let Some(end) = starts(tokens, Mark::RightParen) {
-        return Ok((all, end));
+        return Ok((Vec::new(alloc), end));
     }
+    let mut all = Vec::new(alloc);
     let mut rest = push_part(&mut all, expression(alloc, tokens))?;
     'more: while let Some(after) = starts(rest, Mark::Comma) {
         rest = push_part(&mut all, expression(alloc, after))?;
@@ -214,7 +208,6 @@ fn call_start<'a>(tokens: &'a [Token]) -> Option<(Identifier, &'a [Token])>
 /// Parses what a name may be given: an expression or a call.
 pub fn value<'a>(alloc: Global, tokens: &'a [Token]) -> Parsed<'a, Value>
     ensures ok { IfOk result (λ r. IsRead value tokens.now r.1.now (value_tree r.0)) }
-    ensures shorter { IfOk result (λ r. length r.1.now < length tokens.now) }
     ensures err { IfErr result (IsStuck value tokens.now) }
 {
     match call_start(tokens) {

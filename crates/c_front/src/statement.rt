@@ -1,5 +1,5 @@
 //! Statements (C99 6.8), and the simple statements of this subset.
-ghost use Rattle.std.specs.Prelude.{◌≡◌, ◌∷◌, ◌<◌, ◌≤◌, length, true, false, IfOk, IfErr, IfSome, IfNone};
+ghost use Rattle.std.specs.Prelude.{◌≡◌, ◌∷◌, true, false, IfOk, IfErr, IfSome, IfNone};
 ghost use Rattle.c_front.specs.Grammar.{first, a_statement, an_item, items, simple, a_type, declared, maybe_simple, maybe_expression};
 ghost use Rattle.c_front.specs.Choosing.{EndsItems, StartsItem};
 ghost use Rattle.c_tree.specs.Shape.{expression_of, value_tree, maybe_value_tree, simple_of, maybe_simple_of, maybe_expression_of};
@@ -20,7 +20,6 @@ use std::alloc::{AllocError, AllocFailed, Global};
 /// Parses the value after an equals sign.
 fn assigned_value<'a>(alloc: Global, tokens: &'a [Token]) -> Parsed<'a, Value>
     ensures ok { IfOk result (λ r. IsAssignedRead tokens.now r.1.now (value_tree r.0)) }
-    ensures shorter { IfOk result (λ r. length r.1.now < length tokens.now) }
     ensures err { IfErr result (IsAssignedStuck tokens.now) }
 {
     let start = expect(tokens, Mark::Assign)?;
@@ -30,7 +29,6 @@ fn assigned_value<'a>(alloc: Global, tokens: &'a [Token]) -> Parsed<'a, Value>
 /// Parses an assignment, an indexed assignment or a call, after the name with which it begins.
 fn simple<'a>(alloc: Global, name: Identifier, tokens: &'a [Token]) -> Parsed<'a, Simple>
     ensures ok { IfOk result (λ r. IsRead simple (Name name ∷ tokens.now) r.1.now (simple_of r.0)) }
-    ensures shorter { IfOk result (λ r. length r.1.now < length tokens.now) }
     ensures err { IfErr result (IsStuck simple (Name name ∷ tokens.now)) }
 {
     if let Some(after) = starts(tokens, Mark::LeftParen) {
@@ -52,7 +50,6 @@ fn simple<'a>(alloc: Global, name: Identifier, tokens: &'a [Token]) -> Parsed<'a
 /// Parses a condition in parentheses.
 fn condition<'a>(alloc: Global, tokens: &'a [Token]) -> Parsed<'a, Expression>
     ensures ok { IfOk result (λ r. IsConditionRead tokens.now r.1.now (expression_of r.0)) }
-    ensures shorter { IfOk result (λ r. length r.1.now < length tokens.now) }
     ensures err { IfErr result (IsConditionStuck tokens.now) }
 {
     let open = expect(tokens, Mark::LeftParen)?;
@@ -63,7 +60,6 @@ fn condition<'a>(alloc: Global, tokens: &'a [Token]) -> Parsed<'a, Expression>
 pub fn integer_type<'a>(tokens: &'a [Token]) -> Option<(IntegerType, &'a [Token])>
     ensures none { IfNone result (HasNoType tokens.now) }
     ensures some { IfSome result (λ r. IsRead a_type tokens.now r.1.now r.0) }
-    ensures shorter { IfSome result (λ r. length r.1.now < length tokens.now) }
 {
     if let Some(rest) = starts(tokens, Mark::Int) {
         return Some((IntegerType::SignedInt, rest));
@@ -78,7 +74,6 @@ pub fn integer_type<'a>(tokens: &'a [Token]) -> Option<(IntegerType, &'a [Token]
 /// Parses a simple statement, if one stands here, and the mark that has to follow.
 fn ended_simple<'a>(alloc: Global, tokens: &'a [Token], closing: Mark) -> Parsed<'a, Option<Simple>>
     ensures ok { IfOk result (λ r. IsEndedRead maybe_simple closing tokens.now r.1.now (maybe_simple_of r.0)) }
-    ensures shorter { IfOk result (λ r. length r.1.now < length tokens.now) }
     ensures err { IfErr result (IsEndedStuck maybe_simple closing tokens.now) }
 {
     match name(tokens) {
@@ -93,7 +88,6 @@ fn ended_simple<'a>(alloc: Global, tokens: &'a [Token], closing: Mark) -> Parsed
 /// Parses an expression, if one stands here, and the semicolon that has to follow.
 fn ended_expression<'a>(alloc: Global, tokens: &'a [Token]) -> Parsed<'a, Option<Expression>>
     ensures ok { IfOk result (λ r. IsEndedRead maybe_expression Semicolon tokens.now r.1.now (maybe_expression_of r.0)) }
-    ensures shorter { IfOk result (λ r. length r.1.now < length tokens.now) }
     ensures err { IfErr result (IsEndedStuck maybe_expression Semicolon tokens.now) }
 {
     if let Some(end) = starts(tokens, Mark::Semicolon) {
@@ -107,7 +101,6 @@ fn ended_expression<'a>(alloc: Global, tokens: &'a [Token]) -> Parsed<'a, Option
 fn for_parts<'a>(alloc: Global, tokens: &'a [Token]) -> Parsed<'a, ForParts>
     ensures ok { IfOk result (λ r. IsHeadRead tokens.now r.1.now (maybe_simple_of r.0.first) (maybe_expression_of r.0.test)
         (maybe_simple_of r.0.last)) }
-    ensures shorter { IfOk result (λ r. length r.1.now < length tokens.now) }
     ensures err { IfErr result (IsHeadStuck tokens.now) }
 {
     let open = expect(tokens, Mark::LeftParen)?;
@@ -121,7 +114,6 @@ fn for_parts<'a>(alloc: Global, tokens: &'a [Token]) -> Parsed<'a, ForParts>
 /// Parses what stands after `break`, `continue` or `return`.
 fn jump<'a>(alloc: Global, word: JumpWord, at: usize, tokens: &'a [Token]) -> Parsed<'a, Statement>
     ensures ok { IfOk result (λ r. IsRead a_statement (Jump word at ∷ tokens.now) r.1.now (statement_of r.0)) }
-    ensures shorter { IfOk result (λ r. length r.1.now < length tokens.now) }
     ensures err { IfErr result (IsStuck a_statement (Jump word at ∷ tokens.now)) }
 {
     match word {
@@ -138,7 +130,6 @@ fn jump<'a>(alloc: Global, word: JumpWord, at: usize, tokens: &'a [Token]) -> Pa
 #[cycle(statements)]
 fn statement<'a>(alloc: Global, tokens: &'a [Token]) -> Parsed<'a, Statement>
     ensures ok { IfOk result (λ r. IsRead a_statement tokens.now r.1.now (statement_of r.0)) }
-    ensures shorter { IfOk result (λ r. length r.1.now < length tokens.now) }
     ensures err { IfErr result (IsStuck a_statement tokens.now) }
 {
     let Some((token, rest)) = split(tokens) else {
@@ -169,7 +160,6 @@ fn statement<'a>(alloc: Global, tokens: &'a [Token]) -> Parsed<'a, Statement>
 #[cycle(statements)]
 fn if_then<'a>(alloc: Global, tokens: &'a [Token]) -> Parsed<'a, Statement>
     ensures ok { IfOk result (λ r. IsBranchRead tokens.now r.1.now (statement_of r.0)) }
-    ensures shorter { IfOk result (λ r. length r.1.now < length tokens.now) }
     ensures err { IfErr result (IsBranchStuck tokens.now) }
 {
     let (test, start) = condition(alloc, tokens)?;
@@ -187,7 +177,6 @@ fn if_then<'a>(alloc: Global, tokens: &'a [Token]) -> Parsed<'a, Statement>
 #[cycle(statements)]
 fn while_loop<'a>(alloc: Global, tokens: &'a [Token]) -> Parsed<'a, Statement>
     ensures ok { IfOk result (λ r. IsRead a_statement (The While ∷ tokens.now) r.1.now (statement_of r.0)) }
-    ensures shorter { IfOk result (λ r. length r.1.now < length tokens.now) }
     ensures err { IfErr result (IsStuck a_statement (The While ∷ tokens.now)) }
 {
     let (test, start) = condition(alloc, tokens)?;
@@ -199,7 +188,6 @@ fn while_loop<'a>(alloc: Global, tokens: &'a [Token]) -> Parsed<'a, Statement>
 #[cycle(statements)]
 fn for_loop<'a>(alloc: Global, tokens: &'a [Token]) -> Parsed<'a, Statement>
     ensures ok { IfOk result (λ r. IsRead a_statement (The For ∷ tokens.now) r.1.now (statement_of r.0)) }
-    ensures shorter { IfOk result (λ r. length r.1.now < length tokens.now) }
     ensures err { IfErr result (IsStuck a_statement (The For ∷ tokens.now)) }
 {
     let (parts, start) = box_part(alloc, for_parts(alloc, tokens))?;
@@ -210,7 +198,6 @@ fn for_loop<'a>(alloc: Global, tokens: &'a [Token]) -> Parsed<'a, Statement>
 /// Parses the first value of a local variable, if one stands here.
 fn first_value<'a>(alloc: Global, tokens: &'a [Token]) -> Parsed<'a, Option<Value>>
     ensures ok { IfOk result (λ r. IsRead declared tokens.now r.1.now (maybe_value_tree r.0)) }
-    ensures shorter { IfOk result (λ r. length r.1.now ≤ length tokens.now) }
     ensures err { IfErr result (IsStuck declared tokens.now) }
 {
     match starts(tokens, Mark::Assign) {
@@ -226,7 +213,6 @@ fn first_value<'a>(alloc: Global, tokens: &'a [Token]) -> Parsed<'a, Option<Valu
 #[cycle(statements)]
 fn item<'a>(alloc: Global, tokens: &'a [Token]) -> Parsed<'a, Item>
     ensures ok { IfOk result (λ r. IsRead an_item tokens.now r.1.now (item_of r.0)) }
-    ensures shorter { IfOk result (λ r. length r.1.now < length tokens.now) }
     ensures err { IfErr result (IsStuck an_item tokens.now) }
 {
     match integer_type(tokens) {
@@ -263,7 +249,6 @@ fn ends_items(tokens: &[Token]) -> bool
 #[cycle(statements)]
 pub fn items<'a>(alloc: Global, tokens: &'a [Token]) -> Parsed<'a, Vec<Item>>
     ensures ok { IfOk result (λ r. IsRead items tokens.now r.1.now (items_of r.0.items)) }
-    ensures shorter { IfOk result (λ r. length r.1.now ≤ length tokens.now) }
     ensures err { IfErr result (IsStuck items tokens.now) }
 {
     // most blocks have one item or two, and room for more would stay empty

@@ -4,7 +4,7 @@ use Rattle.c_front.specs.Grammar.{program_rule, declarations_end, declarations_m
 use Rattle.c_front.specs.Reading.{read_nothing}
 use Rattle.c_tree.specs.Shape.{declarations_of}
 use Rattle.c_front.proofs.Ends.{failed, stops}
-use Rattle.c_front.proofs.Reading.{derived}
+use Rattle.c_front.proofs.Reading.{derived, takes}
 use Rattle.c_front.proofs.Steps.{whole, within, inside, goes-more}
 use Rattle.c_front.proofs.Choices.{declarations_of-append}
 use Rattle.c_front.proofs.declaration.declarations.Goals as goal
@@ -23,3 +23,6 @@ declarations-preserved c =
 pub returns-clause-ok : goal.returns-clause-ok
 returns-clause-ok c = rw (sym (append-nil (declarations_of c.declarations.all.items))) (derived (whole program_rule refl
     (c.declarations.invariant.reads _ _ (rw c.in_default.ensures.none (whole declarations_end refl read_nothing)))))
+
+pub declarations-smaller : goal.declarations-smaller
+declarations-smaller c = takes tt (IfOk-at_ok _ c.in_ok-rest.ensures.ok.1 c.declaration.ensures.ok)

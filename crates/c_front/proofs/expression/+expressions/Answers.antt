@@ -4,7 +4,8 @@ use Rattle.c_front.specs.Grammar.{operand_unary, operand_paren, is_name, is_cons
 use Rattle.c_front.specs.Reading.{read_nothing}
 use Rattle.c_front.specs.Parsing.{level_of, without_memory}
 use Rattle.std.proofs.lemmas.Result.{IfOk-at_ok, IfOk-weaker, IfErr-weaker}
-use Rattle.c_front.proofs.Ends.{failed, stops, ended-shorter, unended}
+use Rattle.c_front.proofs.Reading.{takes}
+use Rattle.c_front.proofs.Ends.{failed, stops, unended}
 use Rattle.c_front.proofs.Steps.{at-first, at-mark, shorter, followed, mark, whole, taken, past, within, inside, begun, no-phrase}
 use Rattle.c_front.proofs.Paths.{climbs-first, climbs-more, climbs-end, further-out, lifted, climbs-more-stuck, chosen-prefix, no-operand}
 use Rattle.c_front.proofs.Choices.{no-index, otherwise}
@@ -38,13 +39,9 @@ choice-returns-in_err-second-clause-err t c = failed _ c.from_residual-in_err-se
 pub choice-returns-clause-ok : goal.choice-returns-clause-ok
 choice-returns-clause-ok t c = followed c.in_ok-first.ensures.ok c.in_ok-second.ensures.ok
 
-pub choice-returns-clause-shorter : goal.choice-returns-clause-shorter
-choice-returns-clause-shorter t c = omega (arith, c.in_ok-first.ensures.shorter, c.in_ok-second.ensures.shorter)
-
 pub closed_expression-returns : goal.closed_expression-returns
 closed_expression-returns t c = record {
   ok = IfOk-weaker c.expect_after.result _ _ (λ r d. followed (IfOk-at_ok _ d.1 c.expression.ensures.ok) (mark d.2)) c.expect_after.ensures.ok;
-  shorter = IfOk-weaker c.expect_after.result _ _ (λ r d. ended-shorter _ _ _ r d c.expression.ensures.shorter) c.expect_after.ensures.ok;
   err = IfErr-weaker c.expect_after.result _ _ (λ s d. unended _ _ _ _ _ _ d c.expression.ensures.ok c.expression.ensures.err) c.expect_after.ensures.err;
 }
 
@@ -53,7 +50,7 @@ operands-returns-in_err-left-clause-err t c =
     failed _ c.from_residual.ensures.1 (lifted c.args.level 0 _ _ (omega arith) c.in_err-left.ensures.err)
 
 pub operands-climbing-init : goal.operands-climbing-init
-operands-climbing-init t c = climbs-first _ _ _ _ c.if-level-eq0.false c.in_ok-left.ensures.ok c.in_ok-left.ensures.shorter
+operands-climbing-init t c = climbs-first _ _ _ _ c.if-level-eq0.false c.in_ok-left.ensures.ok (takes tt c.in_ok-left.ensures.ok)
 
 pub operands-returns-in_default-clause-ok : goal.operands-returns-in_default-clause-ok
 operands-returns-in_default-clause-ok t c = climbs-end _ _ _ _ c.climbing.invariant (λ k h. c.in_default.ensures.none (level_of k))
@@ -75,7 +72,7 @@ pub operands-climbing-preserved : goal.operands-climbing-preserved
 operands-climbing-preserved t c =
     rw c.in_ok-new.ensures.ok (climbs-more _ _ _ _ _ _ _ _ _ c.climbing.invariant c.in-Some.ensures.some c.if-found-level.false
     c.in_ok-right.ensures.ok c.in_ok-right.ensures.ends
-    (omega (arith, shorter c.in-Some.ensures.some.2, c.climbing.invariant.shorter, c.in_ok-right.ensures.shorter)))
+    (omega (arith, shorter c.in-Some.ensures.some.2, c.climbing.invariant.shorter, takes tt c.in_ok-right.ensures.ok)))
 
 pub operand-returns-in_default-clause-err : goal.operand-returns-in_default-clause-err
 operand-returns-in_default-clause-err t c = no-phrase c.in_default.ensures.none (λ after. refl)
@@ -128,10 +125,10 @@ operand-returns-in_default-mark-clause-err t c = no-phrase (at-first c.in-Some.e
     (no-operand _ c.in_default-prefix_of.ensures.none c.in_default-mark.not-LeftParen)
 
 pub expression-choice-requires : goal.expression-choice-requires
-expression-choice-requires t c = (omega (arith, c.in_ok-condition.ensures.shorter, shorter c.in-Some.ensures.some), tt)
+expression-choice-requires t c = (omega (arith, takes tt c.in_ok-condition.ensures.ok, shorter c.in-Some.ensures.some), tt)
 
 pub choice-expression-requires : goal.choice-expression-requires
-choice-expression-requires t c = (omega (arith, c.in_ok-first.ensures.shorter), tt)
+choice-expression-requires t c = (omega (arith, takes tt c.in_ok-first.ensures.ok), tt)
 
 pub operand-operand-requires : goal.operand-operand-requires
 operand-operand-requires t c = (omega (arith, shorter c.in-Some.ensures.some), tt)
@@ -144,3 +141,6 @@ operands-operands-requires t c = (omega (arith, shorter c.in-Some.ensures.some.2
 
 pub operand-closed_expression-requires : goal.operand-closed_expression-requires
 operand-closed_expression-requires t c = (omega (arith, shorter c.in-Some.ensures.some, shorter c.in-Some-starts.ensures.some), tt)
+
+pub operands-climbing-smaller : goal.operands-climbing-smaller
+operands-climbing-smaller t c = omega (arith, shorter c.in-Some.ensures.some.2, takes tt c.in_ok-right.ensures.ok)

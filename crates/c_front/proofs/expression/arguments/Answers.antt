@@ -3,7 +3,7 @@ use Rattle.std.proofs.lemmas.Result.{IfOk-at_ok, IfOk-weaker, IfErr-weaker}
 use Rattle.c_front.proofs.Ends.{failed, stops, plain-ended, unended}
 use Rattle.c_tokens.specs.declared.token.Mark.TheVariants.{RightParen}
 use Rattle.c_tree.specs.Shape.{expressions_of}
-use Rattle.c_front.proofs.Reading.{reads-within}
+use Rattle.c_front.proofs.Reading.{takes}
 use Rattle.c_front.proofs.Choices.{expressions_of-append, otherwise}
 use Rattle.c_front.proofs.Steps.{shorter, followed, mark, whole, past, within, inside, begun, goes-first, goes-more}
 use Rattle.c_front.specs.Grammar.{arguments, more_arguments, arguments_none, arguments_some, more_arguments_end, more_arguments_more, is_the}
@@ -11,7 +11,7 @@ use Rattle.c_front.specs.Reading.{read_nothing}
 use Rattle.c_front.proofs.expression.arguments.Goals as goal
 
 pub returns-in-Some-clause-ok : goal.returns-in-Some-clause-ok
-returns-in-Some-clause-ok c = rw c.new-all.ensures.items
+returns-in-Some-clause-ok c = rw c.new.ensures.items
     (followed (whole arguments_none (rw c.in-Some.ensures.some) read_nothing) (mark c.in-Some.ensures.some))
 
 pub returns-in_err-rest-clause-err : goal.returns-in_err-rest-clause-err
@@ -42,7 +42,8 @@ returns c =
     let read = c.more.invariant.reads _ _ (whole more_arguments_end (otherwise more_arguments _ c.in_default-starts.ensures.none) read_nothing) in record {
       ok = IfOk-weaker c.expect_after.result _ _ (λ r d. let h = plain-ended RightParen r d in
           rw (h.0, sym (append-nil (expressions_of c.more.all.items))) (followed read (mark h.1))) c.expect_after.ensures.ok;
-      shorter = IfOk-weaker c.expect_after.result _ _
-          (λ r d. omega (arith, shorter (plain-ended RightParen r d).1, reads-within read)) c.expect_after.ensures.ok;
       err = IfErr-weaker c.expect_after.result _ _ (λ s d. past read (unended _ _ [] _ (λ _. tt) s d read_nothing tt)) c.expect_after.ensures.err;
     }
+
+pub more-smaller : goal.more-smaller
+more-smaller c = omega (arith, shorter c.in-Some-starts.ensures.some, takes tt (IfOk-at_ok _ c.in_ok-rest-2.ensures.ok.1 c.expression-in-Some-starts.ensures.ok))

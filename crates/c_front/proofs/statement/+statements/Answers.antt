@@ -3,6 +3,7 @@ use Rattle.c_front.specs.Grammar.{an_item, else_part, is_the, is_name, items_end
 use Rattle.c_front.specs.Grammar.{statement_block, statement_if, statement_while, statement_for, statement_simple, else_none, else_some}
 use Rattle.c_tree.specs.Shape.{items_of}
 use Rattle.std.proofs.lemmas.Result.{IfOk-at_ok, IfOk-weaker, IfErr-weaker}
+use Rattle.c_front.proofs.Reading.{takes, takes-token}
 use Rattle.c_front.proofs.Ends.{failed, stops, unended}
 use Rattle.c_front.proofs.Steps.{at-first, at-mark, shorter, followed, one, mark, whole, taken, past, within, inside, begun, no-phrase, name-missing}
 use Rattle.c_front.proofs.Steps.{goes-more}
@@ -117,10 +118,6 @@ pub while_loop-returns-clause-ok : goal.while_loop-returns-clause-ok
 while_loop-returns-clause-ok t c =
     taken statement_while is_the refl refl (followed c.in_ok-test.ensures.ok (IfOk-at_ok _ c.in_ok-body.ensures.ok c.statement.ensures.ok))
 
-pub while_loop-returns-clause-shorter : goal.while_loop-returns-clause-shorter
-while_loop-returns-clause-shorter t c =
-    omega (arith, c.in_ok-test.ensures.shorter, IfOk-at_ok _ c.in_ok-body.ensures.ok c.statement.ensures.shorter)
-
 pub for_loop-returns-in_err-parts-clause-err : goal.for_loop-returns-in_err-parts-clause-err
 for_loop-returns-in_err-parts-clause-err t c = failed _ c.from_residual.ensures.1
     (begun statement_for is_the refl refl (within _ (stops _ _ _ _ c.in_err-parts.ensures.err c.for_parts.ensures.err)))
@@ -132,10 +129,6 @@ for_loop-returns-in_err-body-clause-err t c = failed _ c.from_residual-in_err-bo
 pub for_loop-returns-clause-ok : goal.for_loop-returns-clause-ok
 for_loop-returns-clause-ok t c = taken statement_for is_the refl refl
     (followed (IfOk-at_ok _ c.in_ok-parts.ensures.ok c.for_parts.ensures.ok) (IfOk-at_ok _ c.in_ok-body.ensures.ok c.statement.ensures.ok))
-
-pub for_loop-returns-clause-shorter : goal.for_loop-returns-clause-shorter
-for_loop-returns-clause-shorter t c =
-    omega (arith, IfOk-at_ok _ c.in_ok-parts.ensures.ok c.for_parts.ensures.shorter, IfOk-at_ok _ c.in_ok-body.ensures.ok c.statement.ensures.shorter)
 
 pub item-returns-in_err-name-in-Some-clause-err : goal.item-returns-in_err-name-in-Some-clause-err
 item-returns-in_err-name-in-Some-clause-err t c = failed _ c.from_residual.ensures.1
@@ -179,25 +172,21 @@ items-items-preserved t c =
     rw (r.2, items_of-append c.items.all.items r.0) (record {
       goes = goes-more c.items.invariant.goes items_more (c.ends_items.ensures.more c.items-test.true) (λ z. z)
           (IfOk-at_ok _ r.1 c.item.ensures.ok) (after-after (items_of c.items.all.items) _);
-      shorter = omega (arith, c.items.invariant.shorter, IfOk-at_ok _ r.1 c.item.ensures.shorter);
+      shorter = omega (arith, c.items.invariant.shorter, takes tt (IfOk-at_ok _ r.1 c.item.ensures.ok));
     })
 
 pub if_then-statement-requires : goal.if_then-statement-requires
-if_then-statement-requires t c = (omega (arith, c.in_ok-test.ensures.shorter), tt)
+if_then-statement-requires t c = (omega (arith, takes-token c.in_ok-test.ensures.ok), tt)
 
 pub while_loop-statement-requires : goal.while_loop-statement-requires
-while_loop-statement-requires t c = (omega (arith, c.in_ok-test.ensures.shorter), tt)
+while_loop-statement-requires t c = (omega (arith, takes-token c.in_ok-test.ensures.ok), tt)
 
 pub for_loop-statement-requires : goal.for_loop-statement-requires
-for_loop-statement-requires t c = (omega (arith, IfOk-at_ok _ c.in_ok-parts.ensures.ok c.for_parts.ensures.shorter), tt)
-
-pub if_then-returns-in-None-clause-shorter : goal.if_then-returns-in-None-clause-shorter
-if_then-returns-in-None-clause-shorter t c =
-    omega (arith, c.in_ok-test.ensures.shorter, IfOk-at_ok _ c.in_ok-first.ensures.ok c.statement.ensures.shorter)
+for_loop-statement-requires t c = (omega (arith, takes-token (IfOk-at_ok _ c.in_ok-parts.ensures.ok c.for_parts.ensures.ok)), tt)
 
 pub if_then-statement-requires-in-Some : goal.if_then-statement-requires-in-Some
 if_then-statement-requires-in-Some t c = (
-  omega (arith, c.in_ok-test.ensures.shorter, IfOk-at_ok _ c.in_ok-first.ensures.ok c.statement.ensures.shorter, shorter c.in-Some.ensures.some),
+  omega (arith, takes-token c.in_ok-test.ensures.ok, takes tt (IfOk-at_ok _ c.in_ok-first.ensures.ok c.statement.ensures.ok), shorter c.in-Some.ensures.some),
   tt,
 )
 
@@ -212,3 +201,6 @@ statement-while_loop-requires t c = (omega (arith, shorter c.in-Some.ensures.som
 
 pub statement-for_loop-requires : goal.statement-for_loop-requires
 statement-for_loop-requires t c = (omega (arith, shorter c.in-Some.ensures.some), tt)
+
+pub items-items-smaller : goal.items-items-smaller
+items-items-smaller t c = takes tt (IfOk-at_ok _ c.in_ok-rest.ensures.ok.1 c.item.ensures.ok)
