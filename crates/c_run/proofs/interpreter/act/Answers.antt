@@ -1,4 +1,4 @@
-use Rattle.std.proofs.Common.{◌≡◌, ap, rules}
+use Rattle.std.proofs.Common.{◌≡◌, ap, refl, rules}
 use Rattle.c_typed.specs.Shape.{statement_of, typed_expression_of}
 use Rattle.c_types.specs.Shape.{program_of}
 use Rattle.c_typed.specs.Trees.{if_else}
@@ -27,3 +27,7 @@ returns-in-If c =
 pub returns-in-Return : goal.returns-in-Return
 returns-in-Return c = acted-here (program_of c.args.program.now) c.args.depth c.args.s.now _ c.args.interpreter.now c.return_word.new.interpreter
     c.return_word.result (ap statement_of c.in-Return.is) c.return_word.ensures
+
+pub returns-in-Loop : goal.returns-in-Loop
+returns-in-Loop c = acted (program_of c.args.program.now) c.args.depth c.args.s.now _ c.args.interpreter.now c.repeat.new.interpreter c.repeat.result refl
+    c.repeat.ensures
