@@ -14,7 +14,7 @@ pub type FunctionNumber = u32;
 pub type GlobalNumber = u32;
 
 /// An instruction. Where it writes a pseudo-register, that one stands first.
-#[derive(Clone, Copy, Debug, PartialEq, Eq)]
+#[derive(Clone, Copy)]
 pub enum RInst {
     /// `Const(to, word)`
     Const(Register, u32),

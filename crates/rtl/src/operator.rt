@@ -5,7 +5,7 @@ ghost use Rattle.rtl.specs.Operators.{op_result};
 use words::{Operator, Sign};
 
 /// An operator on two words. `S` reads them as signed numbers, `U` as they are.
-#[derive(Clone, Copy, Debug, PartialEq, Eq)]
+#[derive(Clone, Copy)]
 pub enum Op {
     /// The sum modulo 2^32.
     Add,
