@@ -5,7 +5,7 @@ ghost use Rattle.rtl.specs.declared.tails.TheConstants.{TAIL_INSTS};
 ghost use Rattle.rtl.specs.declared.instruction.RInst.TheVariants.{Const};
 ghost use Rattle.rtl.specs.Meaning.{code_of};
 ghost use Rattle.rtl.specs.Names.{is_in, inst_reads, inst_writes, goes_to, some_go_to};
-ghost use Rattle.rtl.specs.Tails.{writes_first, spare_constant, operations, weight, is_short, again, tailed, AreTailed, is_reached, shortest, AreKept, Marks, HasTails, HaveTails};
+ghost use Rattle.rtl.specs.Tails.{writes_first, spare_constant, operations, weight, is_short, again, tailed, AreTailed, is_reached, shortest, empty_code, AreKept, Marks, HasTails, HaveTails};
 
 use crate::block::{RBlock, RFunc};
 use crate::instruction::{BlockNumber, RExit, RInst, Register};
@@ -216,6 +216,14 @@ fn shortest(exit: &RExit) -> RExit
     }
 }
 
+/// Makes a block empty, with the shortest exit that goes nowhere else.
+fn clear(alloc: Global, block: &mut RBlock)
+    ensures { code_of block.new ≡ empty_code block.old }
+{
+    block.insts = Vec::new(alloc);
+    block.exit = shortest(&block.exit);
+}
+
 /// Returns the blocks, the entry and others that an exit goes to as they are, and the rest empty.
 fn with_reached(alloc: Global, mut blocks: Vec<RBlock>) -> Result<Vec<RBlock>, AllocError>
     ensures { IfOk result (λ bs. AreKept (is_reached blocks.items) 0 blocks.items bs.items) }
@@ -223,9 +231,7 @@ fn with_reached(alloc: Global, mut blocks: Vec<RBlock>) -> Result<Vec<RBlock>, A
     let marks = reached_blocks(alloc, blocks.as_slice())?;
     for number in (1..blocks.len()).rev() {
         if !marks[number] {
-            let exit = shortest(&blocks[number].exit);
-            let insts = Vec::new(alloc);
-            blocks[number] = RBlock { insts, exit };
+            clear(alloc, &mut blocks[number]);
         }
     }
     Ok(blocks)
