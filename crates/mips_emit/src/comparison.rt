@@ -16,7 +16,7 @@ ghost use Rattle.mips_emit.specs.Prefixes.{Emits};
 use crate::constant::emit_one;
 use crate::facts::Knowledge;
 use crate::location::{Source, locate};
-use crate::operation::{Operand, emit_op, immediate_of, operand_with};
+use crate::operation::{Operand, emit_after, emit_op, immediate_of, operand_with};
 use crate::transfer::{emit_fetch, operand_register};
 use mblock::{BlockNumber, Exit};
 use mips_homes::{Frame, Home, SCRATCH_1, SCRATCH_3, is_callee_saved, register};
@@ -168,8 +168,7 @@ fn emit_tested(code: &mut Vec<Plain>, x: &Source) -> Result<(), AllocError>
     requires { FitsSource x.now }
     ensures { Emits result code.old.items (fetch 3 x.now ++ nop ∷ []) code.new.items }
 {
-    emit_fetch(code, register(SCRATCH_3), x)?;
-    emit_one(code, Plain::nop())
+    emit_after(code, register(SCRATCH_3), x, Plain::nop(), None)
 }
 
 /// Emits what stands before the branch; an Err means out of memory.
@@ -223,9 +222,10 @@ fn on_sign(test: ZeroTest, rs: Reg, then: BlockNumber, other: BlockNumber) -> Ex
 pub fn comparison_exit(m: &Comparison, then: BlockNumber, other: BlockNumber) -> Exit
     ensures { result ≡ comparison_exit m.now then other }
 {
-    let left = operand_register(register(SCRATCH_3), &m.left.source);
-    let right = operand_register(register(SCRATCH_3), &m.right.source);
-    let truth = register(SCRATCH_3).reg();
+    let t = register(SCRATCH_3);
+    let left = operand_register(t, &m.left.source);
+    let right = operand_register(t, &m.right.source);
+    let truth = t.reg();
     match m.form {
         Form::Known(holds) => Exit::Goto(if holds { then } else { other }),
         Form::OnPair(test) => Exit::BranchPair {

@@ -273,9 +273,10 @@ fn emit_scratch(
     requires fits { FitsSource x.now }
     ensures { Emits result code.old.items (element_code width start ByScratch x.now) code.new.items }
 {
-    let index = operand_register(register(SCRATCH_1), x);
-    emit_fetch(code, register(SCRATCH_1), x)?;
-    emit_base(code, width, register(SCRATCH_1), start, index)
+    let t = register(SCRATCH_1);
+    let index = operand_register(t, x);
+    emit_fetch(code, t, x)?;
+    emit_base(code, width, t, start, index)
 }
 
 /// Emits what stands before an element is used; an Err means out of memory.

@@ -265,6 +265,25 @@ fn learn_write(
     Ok(())
 }
 
+/// Learns that a register is set to a constant; an Err means out of memory, and leaves what was known.
+#[inline(always)]
+fn learn_const(
+    facts: &mut Knowledge,
+    place: &Option<Home>,
+    d: Register,
+    word: u32,
+) -> Result<(), AllocError>
+    ensures kept { OnErr result (facts_of facts.new ≡ facts_of facts.old) }
+    ensures is { let was = facts_of facts.old in
+        OnOk result (facts_of facts.new ≡ record (written place.now d (Some word) was) { deferred = deferred_const place.now word was.deferred }) }
+{
+    put_fact(&mut facts.known, d, Some(word))?;
+    defer(&mut facts.deferred, place, word);
+    pass_kept(&mut facts.kept, place);
+    pass_offset(&mut facts.offset, place);
+    Ok(())
+}
+
 /// Learns what is known after an instruction; an Err means out of memory, and leaves what was known.
 #[inline(always)]
 pub(crate) fn learn(facts: &mut Knowledge, frame: &Frame, inst: &RInst) -> Result<(), AllocError>
@@ -273,23 +292,17 @@ pub(crate) fn learn(facts: &mut Knowledge, frame: &Frame, inst: &RInst) -> Resul
     ensures is { OnOk result (facts_of facts.new ≡ learned (locations frame.now) inst.now (facts_of facts.old)) }
 {
     match inst {
-        RInst::Const(d, word) => {
-            let place = locate(frame, *d);
-            put_fact(&mut facts.known, *d, Some(*word))?;
-            defer(&mut facts.deferred, &place, *word);
-            pass_kept(&mut facts.kept, &place);
-            pass_offset(&mut facts.offset, &place);
-        }
+        RInst::Const(d, word) => learn_const(facts, &locate(frame, *d), *d, *word),
         RInst::Move(d, a) => {
-            let place = locate(frame, *d);
             let word = known_word(facts, *a);
-            learn_write(facts, &place, *d, word)?;
+            learn_write(facts, &locate(frame, *d), *d, word)
         }
         RInst::Bin(op, d, a, b) => {
             let place = locate(frame, *d);
             let sum = sum_at(facts, frame, *op, &place, *a, *b);
             learn_write(facts, &place, *d, None)?;
             put_offset(&mut facts.offset, sum);
+            Ok(())
         }
         RInst::Load(d, a, i) => {
             let place = locate(frame, *d);
@@ -297,10 +310,13 @@ pub(crate) fn learn(facts: &mut Knowledge, frame: &Frame, inst: &RInst) -> Resul
             learn_write(facts, &place, *d, None)?;
             facts.kept = kept;
             pass_kept(&mut facts.kept, &place);
+            Ok(())
         }
-        RInst::Store(a, i, _) => facts.kept = kept_at(facts, frame, *a, *i),
+        RInst::Store(a, i, _) => {
+            facts.kept = kept_at(facts, frame, *a, *i);
+            Ok(())
+        }
     }
-    Ok(())
 }
 
 /// Returns a pseudo-register as an operand, from the word that it is known to hold.

@@ -27,9 +27,9 @@ use crate::facts::{
 };
 use crate::location::{Source, inner_of, locate, word_source};
 use crate::offset::{Offset, index_with};
-use crate::operation::{Operand, emit_op, operand_with};
+use crate::operation::{Operand, emit_after, emit_op, operand_with};
 use crate::setting::Setting;
-use crate::transfer::{emit_bring, emit_fetch, emit_finish, emit_put, into_of, operand_register};
+use crate::transfer::{emit_bring, emit_finish, emit_put, into_of, operand_register};
 use mips_homes::{Frame, Home, SCRATCH_2, is_callee_saved, register};
 use mips_isa::{NonzeroReg, Plain};
 use rtl::{GlobalNumber, Op, RGlobal, RInst, Register};
@@ -147,22 +147,21 @@ fn emit_store(
         (store_code element.now.width element.now.start element.now.by x.now y.now)
         code.new.items }
 {
+    let t = register(SCRATCH_2);
+    let rt = operand_register(t, y);
+    let store = element_store(element.width, rt, element.start, &element.by);
     emit_element(code, element.width, element.start, &element.by, x)?;
-    emit_fetch(code, register(SCRATCH_2), y)?;
-    let rt = operand_register(register(SCRATCH_2), y);
-    emit_one(
-        code,
-        element_store(element.width, rt, element.start, &element.by),
-    )
+    emit_after(code, t, y, store, None)
 }
 
 /// Returns the width of a global's elements.
 fn width_of(globals: &[RGlobal], a: GlobalNumber) -> Width
     ensures { result ≡ width_of globals.now a }
 {
-    globals
-        .get(a as usize)
-        .map_or(Width::Word, |global| global.width)
+    match globals.get(a as usize) {
+        Some(global) => global.width,
+        None => Width::Word,
+    }
 }
 
 /// Returns where a global begins.

@@ -8,12 +8,12 @@ ghost use Rattle.rtl.specs.declared.operator.Op.TheVariants.{Xor};
 ghost use Rattle.mips_isa.specs.declared.inst.Plain.TheVariants.{Shift, ShiftBy, Alu, Imm, Logic, Divide};
 ghost use Rattle.mips_emit.specs.Frames.{IsReachable};
 ghost use Rattle.mips_emit.specs.Locations.{FitsSource, facts_of, locations};
-ghost use Rattle.mips_emit.specs.Code.{is_small, half, fetch, as_list, operation, is_power, immediate, immediate_of, is_symmetric};
+ghost use Rattle.mips_emit.specs.Code.{is_small, half, fetch, one_or_two, as_list, operation, is_power, immediate, immediate_of, is_symmetric};
 ghost use Rattle.mips_emit.specs.Code.{turned_immediate_of, turned_less_of, code_by_less, code_by_right, code_by_word};
 ghost use Rattle.mips_emit.specs.Code.{operand_with, op_code};
 ghost use Rattle.mips_emit.specs.Prefixes.{Emits};
 
-use crate::constant::{emit_one, emit_one_or_two, half, is_small};
+use crate::constant::{emit_one_or_two, half, is_small};
 use crate::facts::{Knowledge, known_word, operand_by};
 use crate::location::Source;
 use crate::product::{emit_multiple, multiple_of};
@@ -261,18 +261,19 @@ pub(crate) fn operand_with(facts: &Knowledge, frame: &Frame, x: Register) -> Ope
     }
 }
 
-/// Emits an instruction, after the operand that it fetches.
-fn emit_after(
+/// Emits one or two instructions, after the operand that they fetch; an Err means out of memory.
+pub(crate) fn emit_after(
     code: &mut Vec<Plain>,
     t: NonzeroReg,
     x: &Source,
-    inst: Plain,
+    first: Plain,
+    second: Option<Plain>,
 ) -> Result<(), AllocError>
     requires { FitsSource x.now }
-    ensures { Emits result code.old.items (fetch t x.now ++ inst ∷ []) code.new.items }
+    ensures { Emits result code.old.items (fetch t x.now ++ one_or_two first second) code.new.items }
 {
     emit_fetch(code, t, x)?;
-    emit_one(code, inst)
+    emit_one_or_two(code, first, second)
 }
 
 /// Emits an operator on two registers, after the operands that they fetch.
@@ -288,11 +289,11 @@ fn emit_both(
     requires right { FitsSource y.now }
     ensures { Emits result code.old.items (code_by_less op inner rd None x.now y.now) code.new.items }
 {
+    let t = register(SCRATCH_2);
     let rs = operand_register(inner, x);
-    let rt = operand_register(register(SCRATCH_2), y);
+    let rt = operand_register(t, y);
     emit_fetch(code, inner, x)?;
-    emit_fetch(code, register(SCRATCH_2), y)?;
-    emit_one_or_two(code, first_of(op, rd, rs, rt), second_of(op, rd))
+    emit_after(code, t, y, first_of(op, rd, rs, rt), second_of(op, rd))
 }
 
 /// Emits an operator by a word on its left, or on the left of a test that is then turned, if it can be.
@@ -308,15 +309,13 @@ fn emit_by_left(
     requires right { FitsSource y.now.source }
     ensures { Emits result code.old.items (code_by_right op inner rd None x.now y.now) code.new.items }
 {
-    let rt = operand_register(register(SCRATCH_2), &y.source);
+    let t = register(SCRATCH_2);
+    let rt = operand_register(t, &y.source);
     if let Some(first) = turned_immediate_of(op, rd, rt, x.known) {
-        return emit_after(code, register(SCRATCH_2), &y.source, first);
+        return emit_after(code, t, &y.source, first, None);
     }
     match turned_less_of(op, rd, rt, x.known) {
-        Some(first) => {
-            emit_fetch(code, register(SCRATCH_2), &y.source)?;
-            emit_one_or_two(code, first, Some(opposite_truth(rd)))
-        }
+        Some(first) => emit_after(code, t, &y.source, first, Some(opposite_truth(rd))),
         None => emit_both(code, op, inner, rd, &x.source, &y.source),
     }
 }
@@ -336,7 +335,7 @@ fn emit_by_word(
 {
     let rs = operand_register(inner, &x.source);
     match immediate_of(op, rd, rs, y.known) {
-        Some(first) => emit_after(code, inner, &x.source, first),
+        Some(first) => emit_after(code, inner, &x.source, first, None),
         None => emit_by_left(code, op, inner, rd, x, y),
     }
 }
