@@ -1,6 +1,6 @@
 -- Code that is being made.
-use Rattle.std.proofs.Common.{◌≡◌, ℕ, suc, ◌+◌, ◌-◌, ◌<◌, inr, List, [], ◌∷◌, ◌++◌, drop, get_or, length, None, refl, ap, ap₂, ◌∙◌, subst, arith, length-drop}
-use Rattle.std.proofs.lemmas.List.{append_assoc, at_drop_more}
+use Rattle.std.proofs.Common.{◌≡◌, ℕ, suc, ◌+◌, ◌-◌, ◌<◌, inl, inr, List, [], ◌∷◌, ◌++◌, drop, get_or, length, None, refl, sym, ap, ap₂, ◌∙◌, subst, arith, length-drop}
+use Rattle.std.proofs.lemmas.List.{append_assoc, append-nil, at_drop_more, drop_all}
 use Rattle.mips_isa.specs.declared.inst.Plain.{Plain}
 use Rattle.rtl.specs.declared.instruction.RInst.{RInst}
 use Rattle.rtl.specs.declared.instruction.RInst.TheVariants.{Const}
@@ -9,7 +9,7 @@ use Rattle.mips_emit.specs.declared.comparison.Asked.{Asked}
 use Rattle.mips_emit.specs.Locations.{Locations, Facts, learned, known_after, fresh_of, operand}
 use Rattle.mips_emit.specs.Code.{Context, carry, arguments_code}
 use Rattle.mips_emit.specs.Comparisons.{comparison_of, asked_last, next_code, one_code, last_with, last_after, no_last, insts_code}
-use Rattle.mips_emit.specs.Prefixes.{StopsAmong, Emission, emission}
+use Rattle.mips_emit.specs.Prefixes.{EmitsPrefix, StopsAmong, Emission, emission}
 
 -- the code of some instructions stands before what comes behind them
 pub insts_behind : (c : Context) (asked : Asked) (facts : Facts) (is : List RInst) (behind : List Plain)
@@ -60,6 +60,53 @@ insts_more c asked insts was now next i left d within more emits learns before =
       λ final last s. before.4 final last (rw first (inr (subst (λ e. StopsAmong c asked rest e (emission final last))
           (ap₂ emission learns (emits ∙ ap (λ l. now.code ++ l) code_is)) s))),
     )
+
+-- memory is refused at an instruction
+stops_here : (c : Context) (asked : Asked) (insts : List RInst) (now : Emission) (i : ℕ) (d : RInst) (final : Facts) (code : List Plain) → i < length insts
+    → final ≡ now.facts → EmitsPrefix now.code (one_code c asked (drop (i + 1) insts) now.facts (get_or insts i d)) code
+    → StopsAmong c asked (drop i insts) now (emission final code)
+stops_here c asked insts now i d final code within same some = rw (at_drop_more (λ is. is) insts i d within) (inl (same, some))
+
+module _ (c : Context) (asked : Asked) (insts : List RInst) (was now : Emission) (i left : ℕ) (d : RInst) (final : Facts) (code : List Plain)
+    (within : i < length insts) where
+  -- at one before others
+  pub stops_before : (left - 1 ≡ 0 → ⊥) → final ≡ now.facts → EmitsPrefix now.code (next_code c now.facts None (get_or insts i d)) code
+      → AreEmitted c asked insts was i left now → StopsAmong c asked insts was (emission final code)
+  stops_before more same some before =
+      let rest = drop (i + 1) insts in
+      let others : 0 < length rest = omega (arith, length-drop (i + 1) insts, before.0, more) in
+      before.4 final code (stops_here c asked insts now i d final code within same
+      (subst (λ l. EmitsPrefix now.code l code) (plain_code c asked now.facts (get_or insts i d) rest others) some))
+
+  none_left : left - 1 ≡ 0 → AreEmitted c asked insts was i left now → drop (i + 1) insts ≡ []
+  none_left last before = drop_all (i + 1) insts (omega (arith, before.0, last, within))
+
+  -- at the last one
+  pub stops_last : left - 1 ≡ 0 → final ≡ now.facts → EmitsPrefix now.code (one_code c asked [] now.facts (get_or insts i d)) code
+      → AreEmitted c asked insts was i left now → StopsAmong c asked insts was (emission final code)
+  stops_last last same some before =
+      before.4 final code (stops_here c asked insts now i d final code within same
+      (subst (λ is. EmitsPrefix now.code (one_code c asked is now.facts (get_or insts i d)) code) (sym (none_left last before)) some))
+
+  last_alone : left - 1 ≡ 0 → AreEmitted c asked insts was i left now → drop i insts ≡ get_or insts i d ∷ []
+  last_alone last before = at_drop_more (λ is. is) insts i d within ∙ ap (λ is. get_or insts i d ∷ is) (none_left last before)
+
+  -- after the last one
+  pub all_emitted : left - 1 ≡ 0 → code ≡ now.code ++ one_code c asked [] now.facts (get_or insts i d) → AreEmitted c asked insts was i left now
+      → code ≡ was.code ++ insts_code c asked was.facts insts []
+  all_emitted last is before =
+      is ∙ ap (λ l. now.code ++ l) (sym (append-nil (one_code c asked [] now.facts (get_or insts i d))))
+      ∙ ap (λ is. now.code ++ insts_code c asked now.facts is []) (sym (last_alone last before)) ∙ before.1
+
+  pub all_known : left - 1 ≡ 0 → final ≡ learned c.at (get_or insts i d) now.facts → AreEmitted c asked insts was i left now
+      → final ≡ known_after c.at insts was.facts
+  all_known last is before = is ∙ ap (λ is. known_after c.at is now.facts) (sym (last_alone last before)) ∙ before.2
+
+  pub last_known : (last_one : Last) → left - 1 ≡ 0
+      → last_one ≡ last_with (comparison_of c.at now.facts asked (get_or insts i d)) (fresh_of c.at (get_or insts i d))
+      → AreEmitted c asked insts was i left now → last_one ≡ last_after c.at asked was.facts insts no_last
+  last_known last_one last is before =
+      is ∙ ap (λ is. last_after c.at asked now.facts is no_last) (sym (last_alone last before)) ∙ before.3
 
 -- one more argument
 pub arguments_next : (at : Locations) (facts : Facts) (t t' i d : ℕ) (args : List ℕ) → i < length args → t' ≡ t

@@ -1,8 +1,9 @@
 -- Code of which refused memory leaves a beginning.
-use Rattle.std.proofs.Common.{◌≡◌, ◌+◌, ◌-◌, List, ◌++◌, length, take, false, true, ap, arith, length-append, append_assoc}
-use Rattle.std.specs.Prelude.{Result, Ok, Err}
+use Rattle.std.proofs.Common.{◌≡◌, ◌+◌, ◌-◌, List, ◌++◌, length, take, false, true, sym, ap, ◌∙◌, arith, length-append, append_assoc}
+use Rattle.std.specs.Prelude.{Result, Ok, Err, OnErr}
 use Rattle.std.specs.Result.{IsErr}
 use Rattle.std.proofs.Math.Seq.{take-append-add}
+use Rattle.std.proofs.lemmas.List.{take_all}
 use Rattle.std.proofs.lemmas.Grind.{common_steps}
 use Rattle.mips_isa.specs.declared.inst.Plain.{Plain}
 use Rattle.mips_emit.specs.Prefixes.{EmitsPrefix, Emits}
@@ -20,6 +21,16 @@ prefix_before was now a b f = grind (arith, common_steps)
 
 pub prefix_among : (was mid now a b c : List Plain) → mid ≡ was ++ a → EmitsPrefix mid b now → EmitsPrefix was (a ++ (b ++ c)) now
 prefix_among was mid now a b c e f = prefix_behind was mid now a (b ++ c) e (prefix_before mid now b c f)
+
+-- all of it
+pub whole_prefix : (was all now : List Plain) → now ≡ was ++ all → EmitsPrefix was all now
+whole_prefix was all now e =
+    let long = length-append was all in
+    e ∙ ap (λ l. was ++ l) (sym (take_all (length now - length was) all (omega (arith, ap length e, long))))
+
+pub at_err : {A E P : Type 0} (r : Result A E) → P → OnErr r P
+at_err (Ok x) p = tt
+at_err (Err e) p = p
 
 -- what a call leaves that returns the Err of one that it makes
 pub at_prefix : {A E : Type 0} (r : Result A E) (was all now : List Plain) → IsErr r → EmitsPrefix was all now → Emits r was all now
