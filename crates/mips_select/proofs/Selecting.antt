@@ -1,5 +1,5 @@
 -- The parts of a program's unit, put together.
-use Rattle.std.proofs.Common.{◌≡◌, ℕ, ◌+◌, ◌<◌, ◌≤◌, List, length, length-append, Some, refl, ap}
+use Rattle.std.proofs.Common.{◌≡◌, ℕ, ◌+◌, ◌<◌, ◌≤◌, List, length, length-append, Some, refl, sym, ap, subst}
 use Rattle.std.proofs.Common.{◌∙◌, arith, Result, IfErr}
 use Rattle.std.specs.Prelude.{All, slice_get}
 use Rattle.std.proofs.lemmas.List.Sums.{get_or-le-sum_by}
@@ -7,6 +7,8 @@ use Rattle.std.proofs.lemmas.Option.{get_or_from_slice_get, slice_get_within}
 use Rattle.std.proofs.lemmas.Result.{err_from_is_err_and}
 use Rattle.std.specs.Result.{IsErrAnd}
 use Rattle.mblock.specs.declared.limits.TheConstants.{UNIT_BLOCKS, UNIT_BYTES, BLOCK_INSTS}
+use Rattle.mblock.specs.Parts.{BlockParts}
+use Rattle.mblock.specs.Units.{AreOwners, unit_parts}
 use Rattle.rtl.specs.declared.instruction.RExit.{RExit}
 use Rattle.rtl.specs.declared.block.RFunc.{RFunc}
 use Rattle.rtl.specs.declared.block.RGlobal.{RGlobal}
@@ -16,12 +18,12 @@ use Rattle.mips_homes.specs.declared.homed.Homed.{Homed}
 use Rattle.mips_homes.specs.Places.{ArePlaced}
 use Rattle.mips_select.specs.declared.fault.SelectFault.{SelectFault}
 use Rattle.mips_select.specs.declared.fault.SelectFault.TheVariants.{Limit}
-use Rattle.mips_select.specs.Split.{first_piece_of}
+use Rattle.mips_select.specs.Split.{first_piece_of, split_blocks, split_owners}
 use Rattle.mips_select.proofs.Places.{total_above, length-split_from}
 use Rattle.mips_select.specs.Data.{zeros, data_bytes}
 use Rattle.mips_select.specs.Emittable.{HasFewArguments, AreFunctionsEmittable}
 use Rattle.mips_select.specs.Limits.{FramesFit}
-use Rattle.mips_select.specs.Whole.{functions_size, linking_for, program_blocks, unit_for}
+use Rattle.mips_select.specs.Whole.{functions_size, linking_for, program_blocks, unit_for, owners_for}
 use Rattle.mips_select.specs.Laws.{IsBeyond}
 use Rattle.mips_select.proofs.Lists.{all_at}
 use Rattle.mips_select.proofs.DataPlaces.{have_values, data_fits, data_ends}
@@ -79,3 +81,17 @@ bytes_fit p bytes globals ok g_is is =
     let ends = data_ends p.globals in
     let sum = ap length ends.2 ∙ length-append (data_bytes p.globals) (zeros ends.0) in
     omega (arith, data_fits p.globals (have_values p.globals ok.globals) ok.words_fit, ap length (is ∙ ap data_bytes g_is), sum)
+
+-- blocks with their owners, as they are named elsewhere
+pub owned_as : {long blocks : List BlockParts} {owner owners : List ℕ} → long ≡ blocks → owner ≡ owners → AreOwners blocks owners → AreOwners long owner
+owned_as {long} {blocks} {owner} {owners} e f owned = subst (λ l. AreOwners l owner) (sym e) (subst (λ o. AreOwners blocks o) (sym f) owned)
+
+-- a unit is put together of what a program has
+pub unit_is : (h : Homed) {long : List BlockParts} {owner bytes : List ℕ} {globals : List RGlobal} → long ≡ program_blocks h
+    → owner ≡ owners_for (h.rtl.now).functions → globals ≡ (h.rtl.now).globals → bytes ≡ data_bytes globals
+    → unit_parts (split_blocks long) (split_owners long owner) bytes ≡ unit_for h
+unit_is h {owner = owner} {bytes = bytes} blocks_are owners_are globals_are bytes_are =
+    ap (λ l. unit_parts (split_blocks l) (split_owners l owner) bytes) blocks_are
+    ∙ ap (λ o. unit_parts (split_blocks (program_blocks h)) (split_owners (program_blocks h) o) bytes) owners_are
+    ∙ ap (λ b. unit_parts (split_blocks (program_blocks h)) (split_owners (program_blocks h) (owners_for (h.rtl.now).functions)) b)
+    (bytes_are ∙ ap data_bytes globals_are)
