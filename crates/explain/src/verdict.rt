@@ -146,19 +146,6 @@ fn put_pages(out: &mut Writer, block: &Page, order: &Page) {
     out.text("\n");
 }
 
-/// Writes the terms that block and order leave in a place.
-fn put_terms(
-    alloc: Global,
-    out: &mut Writer,
-    place: &Place,
-    block: &Block,
-    order: &Order,
-) -> Result<(), AllocError> {
-    let mut first = left_of(alloc, Code::Block(block))?;
-    let mut second = left_of(alloc, Code::Order(order))?;
-    put_apart(alloc, out, place, &mut first, &mut second)
-}
-
 /// Writes what block and order leave in a place where they differ, and a start that refutes the order.
 pub fn put_differing(
     alloc: Global,
@@ -167,6 +154,8 @@ pub fn put_differing(
     block: &Block,
     order: &Order,
 ) -> Result<(), AllocError> {
-    put_terms(alloc, out, place, block, order)?;
+    let mut first = left_of(alloc, Code::Block(block))?;
+    let mut second = left_of(alloc, Code::Order(order))?;
+    put_apart(alloc, out, place, &mut first, &mut second)?;
     put_found(alloc, out, block, order)
 }
