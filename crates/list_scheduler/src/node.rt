@@ -176,8 +176,7 @@ pub fn keep_needed(alloc: Global, insts: &[Plain]) -> Result<Kept, AllocError> {
     let mut wanted = Resources::ALL;
     let (mut has_load, mut has_late_load) = (false, false);
     let (mut has_store, mut has_ties) = (false, false);
-    for k in (0..insts.len()).rev() {
-        let inst = &insts[k];
+    for inst in insts.iter().rev() {
         let facts = Facts::of(inst);
         if facts.are_needed(wanted) {
             wanted = facts.wanted_before(wanted);

@@ -144,8 +144,7 @@ pub fn list_standing(
 ) -> Result<bool, AllocError> {
     let mut standing = Standing::before_exit(exit);
     let mut wanted = Resources::ALL;
-    for k in (0..insts.len()).rev() {
-        let inst = &insts[k];
+    for inst in insts.iter().rev() {
         let facts = Facts::of(inst);
         if facts.are_needed(wanted) {
             if !standing.takes(&facts) {
