@@ -1,6 +1,8 @@
 //! A program under way: active calls, variables at file scope and output.
-ghost use Rattle.std.specs.Prelude.{◌≡◌, ℕ, IfOk, None, Some, if◌then◌else◌, List, map};
-ghost use Rattle.runs.specs.Kept.{arrays};
+ghost use Rattle.std.specs.Prelude.{◌≡◌, ℕ, IfOk, None, Some, if◌then◌else◌, List, Option, map};
+ghost use Rattle.std.specs.Option.{option_map};
+ghost use Rattle.runs.specs.Kept.{places, arrays};
+ghost use Rattle.c_typed.specs.Values.{values_of};
 ghost use Rattle.c_typed.specs.Meaning.{kept_in, elements_with};
 ghost use Rattle.c_typed.specs.Shape.{statement_of, typed_expression_of, typed_expressions_of, maybe_typed_expression_of};
 ghost use Rattle.c_typed.specs.Trees.{assign, store, call, output, if_else, loop, return_with};
@@ -10,8 +12,7 @@ ghost use Rattle.runs.specs.Calls.{state_by, reached_by};
 ghost use Rattle.c_run.specs.Interpreter.{frame_of, around_next_call, Assigns, Calls, Returns, Does, DoesAtAnyDepth, DoesIn};
 
 use crate::pending::{Agenda, Head};
-use crate::values::{arguments, value};
-use c_typed::{Destination, TypedExpression, TypedStatement};
+use c_typed::{Destination, TypedExpression, TypedStatement, value};
 use c_types::Typed;
 use runs::{Reached, set_word, store};
 use std::alloc::{AllocError, Global};
@@ -74,6 +75,26 @@ fn put_at(
             }
         }
     }
+}
+
+/// Returns the values of the arguments of a call, each a local that is set; None if one has none.
+fn arguments(
+    alloc: Global,
+    expressions: &[TypedExpression],
+    locals: &[Option<u32>],
+    globals: &[Vec<u32>],
+) -> Result<Option<Vec<Option<u32>>>, AllocError>
+    ensures { let wanted = values_of (typed_expressions_of expressions.now) (places locals.now) (arrays globals.now) in
+        IfOk result (λ r. option_map (λ v. v.items) r ≡ option_map (map Some) wanted) }
+{
+    let mut values = Vec::with_capacity(alloc, expressions.len())?;
+    for expression in expressions {
+        let Some(v) = value(expression, locals, globals) else {
+            return Ok(None);
+        };
+        values.push(Some(v))?;
+    }
+    Ok(Some(values))
 }
 
 /// Calls a function with these values.

@@ -1,7 +1,7 @@
 //! Runs a typed program: an interpreter that is exactly the meaning of C at each bound (C99 5.1.2.3, 6.5, 6.8).
 //!
 //! Definitions: `specs/Sizes.antt`, `specs/Turns.antt`, `specs/Portions.antt`.
-//! Contract: `run`, `UnderWay::go_on`, `reason_of`, `value`
+//! Contract: `run`, `UnderWay::go_on`, `reason_of`
 //! - `run` and `UnderWay::go_on` are exactly what n steps of the program lead to at a depth.
 //! - `reason_of` gives a reason exactly if the run ends wrong, and what it says of values is so.
 //!
@@ -17,10 +17,8 @@ mod places;
 mod portions;
 mod reasons;
 mod steps;
-mod values;
 
 pub use places::{WrongPlace, wrong_place_of};
 pub use portions::{UnderWay, begin, output_goes_before};
 pub use reasons::{Reason, reason_of};
 pub use steps::run;
-pub use values::value;

@@ -5,10 +5,9 @@
 use crate::chains::may_chain;
 use crate::source::{Source, after};
 use crate::warnings::Warning;
-use c_run::value;
 use c_tokens::{IntegerType, Mark};
 use c_tree::{BinaryOp, Declaration, Program};
-use c_typed::{Destination, Function, Global as Variable, TypedExpression, TypedStatement};
+use c_typed::{Destination, Function, Global as Variable, TypedExpression, TypedStatement, value};
 use std::alloc::{AllocError, Global};
 use std::mem;
 use words::Sign;

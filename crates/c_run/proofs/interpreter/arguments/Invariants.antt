@@ -3,7 +3,7 @@ use Rattle.std.specs.Option.{option_map}
 use Rattle.c_typed.specs.Shape.{typed_expressions_of}
 use Rattle.c_typed.specs.Values.{values_of}
 use Rattle.runs.specs.Kept.{places, arrays}
-use Rattle.c_run.proofs.values.arguments.Given as goal
+use Rattle.c_run.proofs.interpreter.arguments.Given as goal
 
 abbrev pub invariant-loop-expression : goal.invariant-loop-expression
 invariant-loop-expression l =

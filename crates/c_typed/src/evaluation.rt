@@ -1,16 +1,15 @@
-//! Values of typed expressions (C99 6.5).
-ghost use Rattle.std.specs.Prelude.{◌≡◌, Option, Some, IfOk, map};
-ghost use Rattle.std.specs.Option.{option_map};
-ghost use Rattle.c_typed.specs.Shape.{typed_expression_of, typed_expressions_of};
+//! Evaluates typed expressions (C99 6.5).
+
+ghost use Rattle.std.specs.Prelude.{◌≡◌};
+ghost use Rattle.c_typed.specs.Shape.{typed_expression_of};
 ghost use Rattle.words.specs.Words.{wrap};
 ghost use Rattle.runs.specs.Kept.{places, arrays};
-ghost use Rattle.c_typed.specs.Values.{sign_of, unary_of, binary_of, value_of, values_of};
+ghost use Rattle.c_typed.specs.Values.{sign_of, unary_of, binary_of, value_of};
 
+use crate::tree::TypedExpression;
 use c_tokens::IntegerType;
 use c_tree::{BinaryOp, UnaryOp};
-use c_typed::TypedExpression;
 use runs::{element, word_at};
-use std::alloc::{AllocError, Global};
 use words::Sign;
 
 /// Returns how the words of a type are read.
@@ -32,9 +31,9 @@ fn constant(value: u32) -> u32
     value
 }
 
-/// Returns a prefix operator on a word.
+/// Returns the value of a prefix operator at a word; None where C leaves it undefined (C99 6.5.3.3).
 #[inline]
-pub(crate) fn unary_value(operator: UnaryOp, integer_type: IntegerType, x: u32) -> Option<u32>
+pub fn unary_value(operator: UnaryOp, integer_type: IntegerType, x: u32) -> Option<u32>
     ensures { result ≡ unary_of operator (sign_of integer_type) x }
 {
     match operator {
@@ -45,14 +44,9 @@ pub(crate) fn unary_value(operator: UnaryOp, integer_type: IntegerType, x: u32) 
     }
 }
 
-/// Returns an operator on two words, both of which are evaluated.
+/// Returns the value of an operator at two words, both of which are evaluated; None where C leaves it undefined (C99 6.5.5 to 6.5.14).
 #[inline(always)]
-pub(crate) fn binary_value(
-    operator: BinaryOp,
-    integer_type: IntegerType,
-    x: u32,
-    y: u32,
-) -> Option<u32>
+pub fn binary_value(operator: BinaryOp, integer_type: IntegerType, x: u32, y: u32) -> Option<u32>
     ensures { result ≡ binary_of operator (sign_of integer_type) x y }
 {
     match operator {
@@ -127,24 +121,4 @@ pub fn value(e: &TypedExpression, locals: &[Option<u32>], globals: &[Vec<u32>]) 
             }
         }
     }
-}
-
-/// Returns the values of the arguments of a call, each a local that is set; None if one has none.
-pub(crate) fn arguments(
-    alloc: Global,
-    expressions: &[TypedExpression],
-    locals: &[Option<u32>],
-    globals: &[Vec<u32>],
-) -> Result<Option<Vec<Option<u32>>>, AllocError>
-    ensures { let wanted = values_of (typed_expressions_of expressions.now) (places locals.now) (arrays globals.now) in
-        IfOk result (λ r. option_map (λ v. v.items) r ≡ option_map (map Some) wanted) }
-{
-    let mut values = Vec::with_capacity(alloc, expressions.len())?;
-    for expression in expressions {
-        let Some(v) = value(expression, locals, globals) else {
-            return Ok(None);
-        };
-        values.push(Some(v))?;
-    }
-    Ok(Some(values))
 }

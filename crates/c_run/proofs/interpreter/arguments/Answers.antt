@@ -8,7 +8,7 @@ use Rattle.runs.specs.Stores.{Places, Arrays, chain}
 use Rattle.c_typed.specs.declared.tree.TypedExpression.{TypedExpression}
 use Rattle.c_typed.specs.Shape.{typed_expression_of, typed_expressions_of}
 use Rattle.c_typed.specs.Values.{value_of, values_of}
-use Rattle.c_run.proofs.values.arguments.Goals as goal
+use Rattle.c_run.proofs.interpreter.arguments.Goals as goal
 
 -- the words found so far, and those of the arguments that are left
 abbrev so-far : Places → Arrays → List (Option ℕ) → List TypedExpression → Option (List (Option ℕ))
