@@ -6,14 +6,12 @@ use c_run::{Reason, reason_of, wrong_place_of};
 use c_tokens::IntegerType;
 use c_tree::{BinaryOp, UnaryOp};
 use c_types::Typed;
+use host::{Spot, spot_of};
 use std::alloc::{AllocError, Global};
 use text::{Page, WIDTH, Writer};
 
-/// Returns lines as they may be told; None if memory was refused to them.
-pub(crate) fn page(alloc: Global, lines: Result<String, AllocError>) -> Option<Page> {
-    let lines = lines.ok()?;
-    let mut out = Writer::new(alloc);
-    out.text(lines.as_str());
+/// Returns what was written, its long lines cut; None if memory was refused to it.
+pub(crate) fn page_of(alloc: Global, out: Writer) -> Option<Page> {
     out.end().ok()?.cut(alloc, WIDTH).ok()
 }
 
@@ -55,82 +53,88 @@ fn operation_words(operator: BinaryOp, right: u32) -> &'static str {
     }
 }
 
-/// Returns why an operator between two words of a type has no value.
-fn operation_line(
-    alloc: Global,
+/// Writes why an operator between two words of a type has no value.
+fn put_operation(
+    out: &mut Writer,
     operator: BinaryOp,
     integer_type: IntegerType,
     left: u32,
     right: u32,
-) -> Result<String, AllocError> {
+) {
     let (sign, words) = (sign_of(operator), operation_words(operator, right));
     let (left, right) = (read_as(integer_type, left), read_as(integer_type, right));
-    format!(in alloc; "wrong: {left} {sign} {right} {words}\n")
+    out.put(&format_args!("wrong: {left} {sign} {right} {words}\n"));
 }
 
-/// Returns why a run is wrong, and a hint where there is one.
-fn wrong_lines(alloc: Global, why: Reason, depth: u32) -> Result<String, AllocError> {
+/// Writes why a run is wrong, and a hint where there is one.
+fn put_reason(out: &mut Writer, why: Reason, depth: u32) {
     match why {
-        Reason::Unset => String::from_str(
-            alloc,
+        Reason::Unset => out.text(
             "wrong: a local is read that isn't set\nhint: give it a first value: int i = 0;\n",
         ),
         Reason::Outside {
             index,
             integer_type,
             length,
-        } => {
-            let index = read_as(integer_type, index);
-            format!(in alloc; "wrong: the index {index} is outside its array of length {length}\n")
-        }
+        } => out.put(&format_args!(
+            "wrong: the index {} is outside its array of length {length}\n",
+            read_as(integer_type, index)
+        )),
         Reason::Prefix {
             operator: UnaryOp::Negate,
             integer_type,
             operand,
-        } => {
-            let operand = read_as(integer_type, operand);
-            format!(in alloc; "wrong: -({operand}) {OVERFLOW}\n")
-        }
-        Reason::Prefix { .. } => String::from_str(alloc, "wrong: an operator has no value\n"),
+        } => out.put(&format_args!("wrong: -({}) {OVERFLOW}\n", read_as(integer_type, operand))),
+        Reason::Prefix { .. } => out.text("wrong: an operator has no value\n"),
         Reason::Operation {
             operator,
             integer_type,
             left,
             right,
-        } => operation_line(alloc, operator, integer_type, left, right),
-        Reason::TooDeep => format!(in alloc;
+        } => put_operation(out, operator, integer_type, left, right),
+        Reason::TooDeep => out.put(&format_args!(
             "wrong: more than {depth} calls are active at once\nhint: --depth N lets N be active, 4096 at most\n"
-        ),
-        Reason::NoResult => String::from_str(
-            alloc,
+        )),
+        Reason::NoResult => out.text(
             "wrong: a function that gives a result ended without return\nhint: write a return before its last brace\n",
         ),
     }
 }
 
-/// Returns where a program's run is wrong: nothing, where that isn't known.
-fn place_line(
-    alloc: Global,
-    source: &str,
-    text: &[u8],
-    typed: &Typed,
-    bounds: (u32, u64),
-) -> Result<String, AllocError> {
-    let (depth, steps) = bounds;
-    let Some(place) = wrong_place_of(alloc, typed, depth, steps)? else {
-        return Ok(String::new(alloc));
+/// A run of the program that a text spells, with its bounds. `source` is the text's name.
+#[derive(Clone, Copy)]
+struct BoundedRun<'a> {
+    source: &'a str,
+    text: &'a [u8],
+    typed: &'a Typed,
+    depth: u32,
+    steps: u64,
+}
+
+/// Writes where a run is wrong: nothing, where that isn't known.
+fn put_place(alloc: Global, out: &mut Writer, run: BoundedRun<'_>) -> Result<(), AllocError> {
+    let Some(place) = wrong_place_of(alloc, run.typed, run.depth, run.steps)? else {
+        return Ok(());
     };
-    let Some(place) = place_in_text(alloc, text, typed, place) else {
-        return Ok(String::new(alloc));
+    let Some(place) = place_in_text(alloc, run.text, run.typed, place) else {
+        return Ok(());
     };
-    let name = place.function;
-    match place.spot {
-        Some(spot) => {
-            let (line, column) = (spot.line, spot.column);
-            format!(in alloc; "{source}:{line}:{column}: in function '{name}':\n")
-        }
-        None => format!(in alloc; "{source}: in function '{name}':\n"),
+    out.text(run.source);
+    if let Some(at) = place.at {
+        let Spot { line, column } = spot_of(run.text, at);
+        out.put(&format_args!(":{line}:{column}"));
     }
+    out.put(&format_args!(": in function '{}':\n", place.function));
+    Ok(())
+}
+
+/// Returns where and why a run is wrong, if it is.
+fn run_page(alloc: Global, run: BoundedRun<'_>) -> Option<Page> {
+    let why = reason_of(alloc, run.typed, run.depth, run.steps).ok()??;
+    let mut out = Writer::new(alloc);
+    put_place(alloc, &mut out, run).ok()?;
+    put_reason(&mut out, why, run.depth);
+    page_of(alloc, out)
 }
 
 /// Returns where and why the program that the text spells ends wrong within so many steps, in lines for people. None if it doesn't, or
@@ -143,9 +147,12 @@ pub fn wrong_page(
     steps: u64,
 ) -> Option<Page> {
     let typed = typed_of(alloc, text).ok()?;
-    let why = reason_of(alloc, &typed, depth, steps).ok()??;
-    let mut lines = place_line(alloc, source, text, &typed, (depth, steps)).ok()?;
-    let reason = wrong_lines(alloc, why, depth).ok()?;
-    lines.push_str(reason.as_str()).ok()?;
-    page(alloc, Ok(lines))
+    let run = BoundedRun {
+        source,
+        text,
+        typed: &typed,
+        depth,
+        steps,
+    };
+    run_page(alloc, run)
 }

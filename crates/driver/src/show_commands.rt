@@ -9,7 +9,7 @@ ghost use Rattle.driver.specs.Stages.{IsRtlOf, IsStagesFault, stages_fault_text}
 
 use crate::build_command::{BuildFault, Limit, rtl_of_typed, tell_build, typed_of};
 use crate::pages::print_page;
-use crate::reasons::page;
+use crate::reasons::page_of;
 use crate::run_command::tell_page;
 use c_front::read;
 use c_tree::{Declaration, Program};
@@ -17,10 +17,10 @@ use host::{BadFile, Broken, Complaints, FileCommand, Output, tell};
 use mips_select::{Numbered, SelectFault, select_numbered};
 use rtl::Rtl;
 use show::{Asked, ShowFault, Shown, show};
-use std::alloc::{AllocError, Global};
+use std::alloc::Global;
 use std::error::Error;
-use std::{fmt, str};
-use text::Page;
+use std::fmt;
+use text::{Page, Writer};
 
 /// Why nothing of a text is shown.
 #[derive(Clone, Copy, Debug)]
@@ -105,76 +105,60 @@ pub fn stages(alloc: Global, text: &[u8], asked: &Asked<'_>) -> Result<Page, Sta
     }
 }
 
-/// Returns what is said of a stage that isn't there.
-fn stage_lines(alloc: Global, stage: Option<&str>) -> Result<String, AllocError> {
-    let hint = "hint: stages are rtl, homes, blocks, orders, check, terms, listing and asm\n";
+/// Writes what is said of a stage that isn't there.
+fn put_no_stage(out: &mut Writer, stage: Option<&str>) {
     match stage {
-        Some(name) => format!(in alloc; "error: there is no stage '{name}'\n{hint}"),
-        None => format!(in alloc; "error: there is no stage of this name\n{hint}"),
+        Some(name) => out.put(&format_args!("error: there is no stage '{name}'\n")),
+        None => out.text("error: there is no stage of this name\n"),
     }
+    out.text("hint: stages are rtl, homes, blocks, orders, check, terms, listing and asm\n");
 }
 
 /// Writes the functions of the program that the text spells, as `f, g, main`.
-fn put_functions(out: &mut String, program: &Program) -> Result<(), AllocError> {
+fn put_functions(out: &mut Writer, program: &Program) {
     let mut before = "";
     for declaration in &program.declarations {
         if let Declaration::Function(function) = declaration {
-            out.push_str(before)?;
-            out.push_str(str::from_utf8(program.spelling(function.name)).unwrap_or("?"))?;
+            out.text(before);
+            out.within_line(program.spelling(function.name));
             before = ", ";
         }
     }
-    Ok(())
 }
 
-/// Returns what is said of a function that isn't there.
-fn function_lines(
-    alloc: Global,
-    text: &[u8],
-    function: Option<&str>,
-) -> Result<String, AllocError> {
-    let mut lines = match function {
-        Some(name) => format!(in alloc; "error: the program has no function '{name}'\n")?,
-        None => String::from_str(alloc, "error: the program has no function of this name\n")?,
-    };
-    if let Ok(program) = read(alloc, text) {
-        lines.push_str("hint: it has ")?;
-        put_functions(&mut lines, &program)?;
-        lines.push_str("\n")?;
+/// Writes what is said of a function that isn't there.
+fn put_no_function(alloc: Global, out: &mut Writer, text: &[u8], function: Option<&str>) {
+    match function {
+        Some(name) => out.put(&format_args!("error: the program has no function '{name}'\n")),
+        None => out.text("error: the program has no function of this name\n"),
     }
-    Ok(lines)
+    if let Ok(program) = read(alloc, text) {
+        out.text("hint: it has ");
+        put_functions(out, &program);
+        out.text("\n");
+    }
 }
 
-/// Returns what is said of a block that isn't there.
-fn block_lines(
-    alloc: Global,
-    asked: &Asked<'_>,
-    first: usize,
-    last: usize,
-) -> Result<String, AllocError> {
-    let whose = match asked.function {
-        Some(name) => format!(in alloc; "the function '{name}'")?,
-        None => String::from_str(alloc, "the program")?,
-    };
-    let which = match asked.block {
-        Some(number) => format!(in alloc; "{number}")?,
-        None => String::from_str(alloc, "of this number")?,
-    };
-    format!(in alloc; "error: {whose} has no block {which}\nhint: it has {first} to {last}\n")
+/// Writes what is said of a block that isn't there.
+fn put_no_block(out: &mut Writer, asked: &Asked<'_>, first: usize, last: usize) {
+    match asked.function {
+        Some(name) => out.put(&format_args!("error: the function '{name}' has no block ")),
+        None => out.text("error: the program has no block "),
+    }
+    match asked.block {
+        Some(number) => out.put(&number),
+        None => out.text("of this number"),
+    }
+    out.put(&format_args!("\nhint: it has {first} to {last}\n"));
 }
 
 /// Tells the line of a fault, and lines below it, if there are some.
-fn tell_with<E: Complaints>(
-    alloc: Global,
-    err: &mut E,
-    fault: StagesFault,
-    lines: Result<String, AllocError>,
-) -> u8
+fn tell_with<E: Complaints>(err: &mut E, fault: StagesFault, page: Option<Page>) -> u8
     ensures status { result ≡ 1 }
     ensures told { TellsLine E.tells err.old (stages_fault_text fault) err.new }
 {
     let status = tell(err, &fault);
-    tell_page(err, page(alloc, lines));
+    tell_page(err, page);
     status
 }
 
@@ -182,27 +166,20 @@ fn tell_with<E: Complaints>(
 fn tell_asked<E: Complaints>(
     alloc: Global,
     err: &mut E,
-    source: &str,
-    text: &[u8],
-    fault: StagesFault,
+    of: &BadFile<'_, StagesFault>,
     asked: &Asked<'_>,
 ) -> u8
     ensures status { result ≡ 1 }
-    ensures told { TellsLine E.tells err.old (stages_fault_text fault) err.new }
+    ensures told { TellsLine E.tells err.old (stages_fault_text of.now.fault) err.new }
 {
-    match fault {
-        StagesFault::Build(fault) => tell_build(alloc, err, source, text, fault),
-        StagesFault::NoStage => tell_with(alloc, err, fault, stage_lines(alloc, asked.stage)),
-        StagesFault::NoFunction => tell_with(
-            alloc,
-            err,
-            fault,
-            function_lines(alloc, text, asked.function),
-        ),
-        StagesFault::NoBlock { first, last } => {
-            tell_with(alloc, err, fault, block_lines(alloc, asked, first, last))
-        }
+    let mut out = Writer::new(alloc);
+    match of.fault {
+        StagesFault::Build(fault) => return tell_build(alloc, err, of.file, of.bytes, fault),
+        StagesFault::NoStage => put_no_stage(&mut out, asked.stage),
+        StagesFault::NoFunction => put_no_function(alloc, &mut out, of.bytes, asked.function),
+        StagesFault::NoBlock { first, last } => put_no_block(&mut out, asked, first, last),
     }
+    tell_with(err, of.fault, page_of(alloc, out))
 }
 
 /// `mcc show`, with what is asked for.
@@ -244,6 +221,6 @@ impl FileCommand for ShowCommand<'_> {
     fn remark<E: Complaints>(&self, _alloc: Global, _bytes: &[u8], _end: &(), _err: &mut E) {}
 
     fn tell<E: Complaints>(&self, alloc: Global, of: &BadFile<'_, StagesFault>, err: &mut E) -> u8 {
-        tell_asked(alloc, err, of.file, of.bytes, of.fault, &self.asked)
+        tell_asked(alloc, err, of, &self.asked)
     }
 }

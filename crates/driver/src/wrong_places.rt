@@ -6,7 +6,6 @@ use c_run::WrongPlace;
 use c_tree::{Declaration, FunctionDefinition, Program};
 use c_typed::TypedStatement;
 use c_types::Typed;
-use host::{Spot, spot_of};
 use messages::placed_statements;
 use std::alloc::Global;
 use std::str;
@@ -30,7 +29,7 @@ pub(crate) fn function_of(program: &Program, number: usize) -> Option<&FunctionD
 pub(crate) struct NamedPlace<'t> {
     pub(crate) function: &'t str,
     /// None where another statement of the function is like it.
-    pub(crate) spot: Option<Spot>,
+    pub(crate) at: Option<usize>,
 }
 
 /// Finds where the statement of a function that is like this one stands; None if there are more.
@@ -60,6 +59,26 @@ fn name_in<'t>(text: &'t [u8], function: &FunctionDefinition) -> &'t str {
     str::from_utf8(text.get(start..end).unwrap_or(b"?")).unwrap_or("?")
 }
 
+/// Finds a place of a program's run in the text that spells it.
+fn named_place<'t>(
+    alloc: Global,
+    text: &'t [u8],
+    program: &Program,
+    typed: &Typed,
+    place: WrongPlace<'_>,
+) -> Option<NamedPlace<'t>> {
+    let function = function_of(program, place.function)?;
+    let body = &typed.functions().get(place.function)?.body;
+    let at = match place.statement {
+        Some(wanted) => place_of(alloc, function, body, wanted, place.left),
+        None => Some(function.name.at as usize),
+    };
+    Some(NamedPlace {
+        function: name_in(text, function),
+        at,
+    })
+}
+
 /// Finds a place of a program's run in its text.
 pub(crate) fn place_in_text<'t>(
     alloc: Global,
@@ -68,14 +87,5 @@ pub(crate) fn place_in_text<'t>(
     place: WrongPlace<'_>,
 ) -> Option<NamedPlace<'t>> {
     let program = read(alloc, text).ok()?;
-    let function = function_of(&program, place.function)?;
-    let body = &typed.functions().get(place.function)?.body;
-    let at = match place.statement {
-        Some(wanted) => place_of(alloc, function, body, wanted, place.left),
-        None => Some(function.name.at as usize),
-    };
-    Some(NamedPlace {
-        function: name_in(text, function),
-        spot: at.map(|at| spot_of(text, at)),
-    })
+    named_place(alloc, text, &program, typed, place)
 }

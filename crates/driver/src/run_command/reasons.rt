@@ -4,13 +4,13 @@ ghost use Rattle.std.specs.Prelude.{All};
 ghost use Rattle.text.specs.Shown.{IsShown};
 ghost use Rattle.host.specs.Requests.{TellsBeside};
 
-use crate::reasons::page;
+use crate::reasons::page_of;
 use host::Complaints;
 use image::{Image, read_image};
 use mips_asm::list;
 use mips_isa::{CODE_BASE, Rule};
 use std::alloc::{AllocError, Global};
-use text::Page;
+use text::{Page, Writer};
 
 /// Tells the lines, if there are some.
 pub(crate) fn tell_page<E: Complaints>(err: &mut E, page: Option<Page>)
@@ -38,28 +38,30 @@ fn rule_words(rule: Rule) -> &'static str {
 }
 
 /// Writes the line of the listing that has the code word at this address, if there is one.
-fn put_listed(alloc: Global, out: &mut String, image: &Image, at: u32) -> Result<(), AllocError> {
+fn put_listed(alloc: Global, out: &mut Writer, image: &Image, at: u32) -> Result<(), AllocError> {
     let number = at.saturating_sub(CODE_BASE) as usize / 4;
     if at < CODE_BASE || at % 4 != 0 || number >= image.code().len() {
         return Ok(());
     }
     let listing = list(alloc, image)?;
     if let Some(line) = listing.as_str().lines().nth(number) {
-        out.push_str(line)?;
-        out.push_str("\n")?;
+        out.text(line);
+        out.text("\n");
     }
     Ok(())
 }
 
-fn stuck_lines(alloc: Global, image: &Image, at: u32, rule: Rule) -> Result<String, AllocError> {
+/// Returns why an image is stuck at an address, by a rule.
+fn rule_page(alloc: Global, image: &Image, at: u32, rule: Rule) -> Option<Page> {
     let words = rule_words(rule);
-    let mut lines = format!(in alloc; "stuck: at 0x{at:x}: {words}\n")?;
-    put_listed(alloc, &mut lines, image, at)?;
-    Ok(lines)
+    let mut out = Writer::new(alloc);
+    out.put(&format_args!("stuck: at 0x{at:x}: {words}\n"));
+    put_listed(alloc, &mut out, image, at).ok()?;
+    page_of(alloc, out)
 }
 
 /// Returns why the image of these bytes is stuck at an address, by a rule.
 pub(crate) fn stuck_page(alloc: Global, bytes: &[u8], at: u32, rule: Rule) -> Option<Page> {
     let image = read_image(alloc, bytes).ok()?;
-    page(alloc, stuck_lines(alloc, &image, at, rule))
+    rule_page(alloc, &image, at, rule)
 }
