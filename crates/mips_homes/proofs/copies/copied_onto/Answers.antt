@@ -1,7 +1,8 @@
-use Rattle.std.proofs.Common.{◌≡◌, List, sym, ap, ◌∙◌, ◌++◌, ◌∷◌, []}
+use Rattle.std.proofs.Common.{◌≡◌, List, sym, ap, ◌∙◌, ◌++◌, ◌∷◌, [], drop}
+use Rattle.std.proofs.lemmas.List.{append-nil, at_drop_all}
 use Rattle.std.specs.Prelude.{slice_get}
 use Rattle.mips_homes.specs.declared.homed.Home.{Home}
-use Rattle.mips_homes.specs.Copies.{with_copy}
+use Rattle.mips_homes.specs.Copies.{with_copy, copied_onto}
 use Rattle.mips_homes.proofs.Copying.{copied_step}
 use Rattle.mips_homes.proofs.copies.copied_onto.Goals as goal
 use Rattle.mips_homes.proofs.copies.copied_onto.Goals.{then-is_slot, else-is_slot}
@@ -18,3 +19,8 @@ loop-home-preserved c =
       | else-is_slot w ↦ step _ _ _ _ _ _ c.loop-home-test.true c.home-item.is
           (sym c.is_slot.ensures ∙ w.if-is_slot.false) w.used-is more c.loop-home.invariant
     ]
+
+pub returns : goal.returns
+returns c =
+    let end = at_drop_all (copied_onto (drop c.loop-home.used c.args.free.now)) c.args.homes.now c.loop-home.home-index c.loop-home-test.false in
+    sym (ap (λ l. c.loop-home.out.items ++ l) end ∙ append-nil c.loop-home.out.items) ∙ c.loop-home.invariant.1

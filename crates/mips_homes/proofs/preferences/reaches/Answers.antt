@@ -1,5 +1,5 @@
 use Rattle.std.proofs.Common.{ap, arith}
-use Rattle.std.proofs.lemmas.List.{at_drop_more}
+use Rattle.std.proofs.lemmas.List.{at_drop_more, at_drop_all}
 use Rattle.rtl.specs.declared.block.RBlock.{RBlock}
 use Rattle.mips_homes.specs.Preferences.{exit_reach, blocks_reach}
 use Rattle.mips_homes.proofs.preferences.reaches.Goals as goal
@@ -13,3 +13,8 @@ loop-block-preserved c = λ y.
     let raised = c.in_ok-raise_at.ensures y in
     let before = c.loop-block.invariant y in
     omega (arith, split, here, raised, before)
+
+pub returns : goal.returns
+returns c = λ x.
+    let none = at_drop_all (λ bs. blocks_reach bs x) c.args.blocks.now c.loop-block.block-index c.loop-block-test.false in
+    omega (arith, none, c.loop-block.invariant x)
