@@ -19,3 +19,13 @@ loop-global-preserved c =
 
 pub returns : goal.returns
 returns c = all_made (starts_from c.loop-global.n) c.args.globals.now c.loop-global.global-index c.loop-global-test.false refl c.loop-global.invariant.1
+
+pub overflow_add-n : goal.overflow_add-n
+overflow_add-n c =
+    let sizes = sum_by-drop_more word_count c.args.globals.now c.loop-global.global-index c.global-item.result c.loop-global-test.true in
+    omega (arith, c.loop-global.invariant.0, c.words_of.ensures, sizes, ap word_count c.global-item.is)
+
+pub overflow_mul-n : goal.overflow_mul-n
+overflow_mul-n c =
+    let sizes = sum_by-drop_more word_count c.args.globals.now c.loop-global.global-index c.global-item.result c.loop-global-test.true in
+    omega (arith, c.loop-global.invariant.0, c.words_of.ensures, sizes, ap word_count c.global-item.is)
