@@ -273,6 +273,9 @@ module _ {most : ℕ} {f : Frame} (ok : IsFrame most f) where
   bytes_fit : (leaf : Bool) → frame_bytes leaf f ≤ most
   bytes_fit leaf = grind (arith, ok.fits)
 
+bytes_aligned : (leaf : Bool) (f : Frame) → frame_bytes leaf f % 4 ≡ 0
+bytes_aligned leaf f = grind arith
+
 -- the stack pointer goes down and up
 record Shifted (is : List Plain) (s : State) (p : ℕ) : Type 0 where
   regs : ℕ → ℕ
@@ -294,6 +297,9 @@ shifted s n p z none some = cond_both (nat_eq n 0) [] (Imm Addiu 29 29 z ∷ [])
 lowered : (s : State) (n : ℕ) → n ≤ FRAME_BYTES → n ≤ s.regs 29 → s.regs 29 ≤ stack_end → Shifted (stack_step Save n) s (s.regs 29 - n)
 lowered s n few le up = shifted s n (s.regs 29 - n) (negsuc (n - 1)) (λ e. omega (arith, e)) (λ some. omega (arith, some, few, le, up))
 
+raised : (s : State) (n : ℕ) → n ≤ FRAME_BYTES → s.regs 29 + n ≤ stack_end → Shifted (stack_step Restore n) s (s.regs 29 + n)
+raised s n few up = shifted s n (s.regs 29 + n) (pos n) (λ e. omega (arith, e)) (λ some. omega (arith, few, up))
+
 module _ {most total : ℕ} {gs : List RGlobal} {starts : ℕ → ℕ} (small : most ≤ FRAME_BYTES) (leaf : Bool) {f : Frame} (ok : IsFrame most f)
     {r : Places} {g : Arrays} {fs : List Stored} {s : State} (h : Stands most total gs starts r g fs s) where
   -- what a prologue leaves, before the parameters go to their homes
@@ -313,7 +319,7 @@ module _ {most total : ℕ} {gs : List RGlobal} {starts : ℕ → ℕ} (small : 
       let s1 : State = record s { regs = low.regs } in
       let p = low.regs 29 in
       let down : p + size ≡ s.regs 29 = omega (arith, low.pointer, fits, room) in
-      let size4 : size % 4 ≡ 0 = omega arith in
+      let size4 = bytes_aligned leaf f in
       let in_stack : InStack total size s1 = record {
         mapped = h.mapped;
         words = run_words (map action_of (stack_step Save size)) s s1 h.words (low.runs).ends;
@@ -399,10 +405,10 @@ module _ {most total : ℕ} {gs : List RGlobal} {starts : ℕ → ℕ} (small : 
       last.others q (link_apart leaf q ne) ∙ back.others q (saved_other ok q out) in
       let pointer1 : last.regs 29 ≡ s.regs 29 = other 29 (inr (omega arith)) (omega arith) in
       let fits = bytes_fit ok leaf in
-      let lift = shifted s1 size (s1.regs 29 + size) (pos size) (λ e. omega (arith, e)) (λ some. omega (arith, fits, small, pointer1, up)) in
+      let lift = raised s1 size (omega (arith, fits, small)) (omega (arith, pointer1, up)) in
       let to : State = record s1 { regs = lift.regs } in
       let pointer : lift.regs 29 ≡ s.regs 29 + size = omega (arith, lift.pointer, pointer1) in
-      let size4 : size % 4 ≡ 0 = omega arith in
+      let size4 = bytes_aligned leaf f in
       record {
         to = to;
         runs = runs_then (rw (link_code Restore leaf f) (runs_then back.runs last.runs)) lift.runs;
