@@ -1,7 +1,7 @@
 //! RTL as text.
 
 use crate::listing::put_heading;
-use crate::names::{Names, RegisterName};
+use crate::names::Names;
 use crate::wanted::Wanted;
 use mblock::BlockNumber;
 use rtl::{Op, RBlock, RExit, RGlobal, RInst, Register};
@@ -42,8 +42,14 @@ fn sign(op: Op) -> &'static str {
 }
 
 impl<'a> RtlView<'a> {
-    fn register(&self, register: Register) -> RegisterName<'a> {
-        self.names.register(self.function, register)
+    fn put_register(&self, out: &mut Writer, register: Register) {
+        out.put(&self.names.register(self.function, register));
+    }
+
+    /// Writes what gets a value.
+    fn put_target(&self, out: &mut Writer, register: Register) {
+        self.put_register(out, register);
+        out.text(" = ");
     }
 
     fn is_array(&self, global: u32) -> bool {
@@ -54,7 +60,9 @@ impl<'a> RtlView<'a> {
     fn element(&self, out: &mut Writer, global: u32, index: Register) {
         out.text(self.names.global(global as usize));
         if self.is_array(global) {
-            out.put(&format_args!("[{}]", self.register(index)));
+            out.text("[");
+            self.put_register(out, index);
+            out.text("]");
         }
     }
 
@@ -62,22 +70,27 @@ impl<'a> RtlView<'a> {
     fn inst(&self, out: &mut Writer, inst: RInst) {
         match inst {
             RInst::Const(to, word) => {
-                out.put(&format_args!("{} = {}", self.register(to), word.cast_signed()));
+                self.put_target(out, to);
+                out.put(&word.cast_signed());
             }
             RInst::Move(to, from) => {
-                out.put(&format_args!("{} = {}", self.register(to), self.register(from)));
+                self.put_target(out, to);
+                self.put_register(out, from);
             }
             RInst::Bin(op, to, left, right) => {
-                let (left, sign, right) = (self.register(left), sign(op), self.register(right));
-                out.put(&format_args!("{} = {left}{sign}{right}", self.register(to)));
+                self.put_target(out, to);
+                self.put_register(out, left);
+                out.text(sign(op));
+                self.put_register(out, right);
             }
             RInst::Load(to, global, index) => {
-                out.put(&format_args!("{} = ", self.register(to)));
+                self.put_target(out, to);
                 self.element(out, global, index);
             }
             RInst::Store(global, index, from) => {
                 self.element(out, global, index);
-                out.put(&format_args!(" = {}", self.register(from)));
+                out.text(" = ");
+                self.put_register(out, from);
             }
         }
     }
@@ -90,38 +103,50 @@ impl<'a> RtlView<'a> {
         }
     }
 
-    fn call(&self, out: &mut Writer, function: u32, arguments: &[Register], to: Option<Register>) {
-        if let Some(to) = to {
-            out.put(&format_args!("{} = ", self.register(to)));
-        }
-        out.put(&format_args!("{}(", self.names.function(function as usize)));
+    fn call(&self, out: &mut Writer, function: u32, arguments: &[Register]) {
+        out.text(self.names.function(function as usize));
+        out.text("(");
         let mut before = "";
         for argument in arguments {
-            out.put(&format_args!("{before}{}", self.register(*argument)));
+            out.text(before);
+            self.put_register(out, *argument);
             before = ", ";
         }
         out.text(")");
     }
 
+    /// Writes words, and the number of a block.
+    fn put_block(&self, out: &mut Writer, words: &str, block: u32) {
+        out.text(words);
+        out.put(&self.number(block as usize));
+    }
+
     /// Writes how a block is left.
     fn exit(&self, out: &mut Writer, exit: &RExit) {
-        let number = |block: u32| self.number(block as usize);
         match exit {
-            RExit::Goto(block) => out.put(&format_args!("goto {}", number(*block))),
+            RExit::Goto(block) => self.put_block(out, "goto ", *block),
             RExit::Branch(test, then, other) => {
-                let (test, then, other) = (self.register(*test), number(*then), number(*other));
-                out.put(&format_args!("if {test} goto {then} else {other}"));
+                out.text("if ");
+                self.put_register(out, *test);
+                self.put_block(out, " goto ", *then);
+                self.put_block(out, " else ", *other);
             }
             RExit::Call(function, arguments, to, next) => {
-                self.call(out, *function, arguments.as_slice(), *to);
-                out.put(&format_args!(", then {}", number(*next)));
+                if let Some(to) = to {
+                    self.put_target(out, *to);
+                }
+                self.call(out, *function, arguments.as_slice());
+                self.put_block(out, ", then ", *next);
             }
             RExit::Return(None) => out.text("return"),
             RExit::Return(Some(from)) => {
-                out.put(&format_args!("return {}", self.register(*from)));
+                out.text("return ");
+                self.put_register(out, *from);
             }
             RExit::Out(from, next) => {
-                out.put(&format_args!("out {}, then {}", self.register(*from), number(*next)));
+                out.text("out ");
+                self.put_register(out, *from);
+                self.put_block(out, ", then ", *next);
             }
         }
     }
