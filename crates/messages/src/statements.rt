@@ -42,95 +42,79 @@ fn start_of(s: &Simple) -> usize {
     }
 }
 
-/// The statements that were met on a walk through a function.
+/// The statements that were met on a walk through a function, unless memory was refused to one.
 #[derive(Drop)]
 struct Walk<'a> {
     placed: Vec<PlacedStatement<'a>>,
+    is_refused: bool,
 }
 
 impl<'a> Walk<'a> {
-    fn add(
-        &mut self,
-        statement: &'a TypedStatement,
-        left: usize,
-        at: Option<usize>,
-    ) -> Result<(), AllocError> {
-        self.placed.push(PlacedStatement {
+    fn add(&mut self, statement: &'a TypedStatement, left: usize, at: Option<usize>) {
+        let placed = PlacedStatement {
             statement,
             at,
             left,
-        })?;
-        Ok(())
+        };
+        self.is_refused = self.is_refused || self.placed.push(placed).is_err();
     }
 
     /// Walks through a `for`, which is typed as the block of its first part and the loop.
     #[cycle(statements)]
-    fn for_loop(
-        &mut self,
-        parts: &ForParts,
-        body: &Statement,
-        typed: &'a [TypedStatement],
-    ) -> Result<(), AllocError> {
-        let [begin, again] = typed else { return Ok(()) };
+    fn for_loop(&mut self, parts: &ForParts, body: &Statement, typed: &'a [TypedStatement]) {
+        let [begin, again] = typed else { return };
         let TypedStatement::Loop(_, step, inner) = again else {
-            return Ok(());
+            return;
         };
         if let Some(first) = &parts.first {
-            self.add(begin, 1, Some(start_of(first)))?;
+            self.add(begin, 1, Some(start_of(first)));
         }
-        let at = parts.test.as_ref().and_then(first_name);
-        self.add(again, 0, at)?;
+        self.add(again, 0, parts.test.as_ref().and_then(first_name));
         if let Some(last) = &parts.last {
-            self.add(step, 0, Some(start_of(last)))?;
+            self.add(step, 0, Some(start_of(last)));
         }
-        self.statement(body, inner, 0)
+        self.statement(body, inner, 0);
     }
 
     /// Walks through a statement that so many others follow in its block.
     #[cycle(statements)]
-    fn statement(
-        &mut self,
-        s: &Statement,
-        typed: &'a TypedStatement,
-        left: usize,
-    ) -> Result<(), AllocError> {
+    fn statement(&mut self, s: &Statement, typed: &'a TypedStatement, left: usize) {
         match (s, typed) {
             (Statement::Block(items), TypedStatement::Block(all)) => self.items(items, all),
             (Statement::If(test, first), TypedStatement::If(_, one, _)) => {
-                self.add(typed, left, first_name(test))?;
-                self.statement(first, one, left)
+                self.add(typed, left, first_name(test));
+                self.statement(first, one, left);
             }
             (Statement::IfElse(test, first, second), TypedStatement::If(_, one, other)) => {
-                self.add(typed, left, first_name(test))?;
-                self.statement(first, one, left)?;
-                self.statement(second, other, left)
+                self.add(typed, left, first_name(test));
+                self.statement(first, one, left);
+                self.statement(second, other, left);
             }
             (Statement::While(test, body), TypedStatement::Loop(_, _, inner)) => {
-                self.add(typed, left, first_name(test))?;
-                self.statement(body, inner, 0)
+                self.add(typed, left, first_name(test));
+                self.statement(body, inner, 0);
             }
             (Statement::For(parts, body), TypedStatement::Block(two)) => {
-                self.for_loop(parts, body, two)
+                self.for_loop(parts, body, two);
             }
             (Statement::Return(at, _), _) => self.add(typed, left, Some(*at)),
             (Statement::Simply(inner), _) => self.add(typed, left, Some(start_of(inner))),
-            _ => Ok(()),
+            _ => {}
         }
     }
 
     /// Walks through the items of a block or of a function's body.
     #[cycle(statements)]
-    fn items(&mut self, items: &[Item], typed: &'a [TypedStatement]) -> Result<(), AllocError> {
+    fn items(&mut self, items: &[Item], typed: &'a [TypedStatement]) {
         for (k, item) in items.iter().enumerate() {
             if let Some(one) = typed.get(k) {
                 let left = typed.len().saturating_sub(k).saturating_sub(1);
                 match item {
-                    Item::Declare(_, name, _) => self.add(one, left, Some(name.at as usize))?,
-                    Item::Statement(s) => self.statement(s, one, left)?,
+                    Item::Declare(_, name, _) => self.add(one, left, Some(name.at as usize)),
+                    Item::Statement(s) => self.statement(s, one, left),
                 }
             }
         }
-        Ok(())
     }
 }
 
@@ -142,7 +126,11 @@ pub fn placed_statements<'a>(
 ) -> Result<Vec<PlacedStatement<'a>>, AllocError> {
     let mut walk = Walk {
         placed: Vec::new(alloc),
+        is_refused: false,
     };
-    walk.items(&function.body, body)?;
+    walk.items(&function.body, body);
+    if walk.is_refused {
+        return Err(AllocError);
+    }
     Ok(walk.placed)
 }

@@ -24,6 +24,17 @@ const LIBRARY: &[Told] = &[
 #[rattlefmt::skip]
 const TAKEN: &[&str] = &["no arguments", "1 argument", "2 arguments", "3 arguments", "4 arguments"];
 
+/// Says why a name that is declared elsewhere isn't in sight at a token.
+fn hint_declared(said: &mut Said, source: &Source<'_>, k: usize, other: usize) {
+    let (shown, line) = (source.token_text(k), source.spot(other).line);
+    said.hint.put(&format_args!("'{shown}' of line {line}"));
+    said.hint(if other < k {
+        " ends with its block: declare it further out"
+    } else {
+        " comes too late: put it before its first use"
+    });
+}
+
 /// Says what is wrong with a name that isn't in sight, given the names that are.
 fn say_undeclared(
     alloc: Global,
@@ -32,16 +43,10 @@ fn say_undeclared(
     names: &[usize],
     k: usize,
 ) -> Result<(), AllocError> {
-    let (name, shown) = (source.spelling(k), source.token_text(k));
-    said.say_name(shown, "isn't declared");
+    said.say_name(source.token_text(k), "isn't declared");
+    let name = source.spelling(k);
     if let Some(other) = source.declaration_of(name) {
-        let line = source.spot(other).line;
-        said.hint.put(&format_args!("'{shown}' of line {line}"));
-        said.hint(if other < k {
-            " ends with its block: declare it further out"
-        } else {
-            " comes too late: put it before its first use"
-        });
+        hint_declared(said, source, k, other);
     } else if let Some(told) = told_of(LIBRARY, name).or(written_for(name)) {
         said.hint(told);
     } else if let Some(near) = nearest(alloc, source, names, k)? {

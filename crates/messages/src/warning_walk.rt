@@ -9,6 +9,7 @@ use c_tokens::{IntegerType, Mark};
 use c_tree::{BinaryOp, Declaration, Program};
 use c_typed::{Destination, Function, Global as Variable, TypedExpression, TypedStatement, value};
 use std::alloc::{AllocError, Global};
+use std::fmt::Display;
 use std::mem;
 use words::Sign;
 
@@ -41,6 +42,8 @@ struct Walk<'a, 't> {
     has_return: bool,
     /// Of each function so far, whether its calls never end.
     endless: Vec<bool>,
+    /// Whether memory was refused.
+    is_refused: bool,
 }
 
 /// Returns the value of an expression that is a constant; None if it has no meaning.
@@ -98,14 +101,13 @@ fn outcomes(test: &TypedExpression) -> (bool, bool) {
 
 impl<'a, 't> Walk<'a, 't> {
     /// Warns of what a token begins.
-    fn warn(
-        &mut self,
-        token: usize,
-        message: Result<String, AllocError>,
-    ) -> Result<(), AllocError> {
-        let (at, message) = (self.source.at(token), message?);
-        self.warnings.push(Warning { at, message })?;
-        Ok(())
+    fn warn<T: Display>(&mut self, token: usize, message: &T) {
+        let at = self.source.at(token);
+        let is_told = match format!(in self.alloc; "{message}") {
+            Ok(message) => self.warnings.push(Warning { at, message }).is_ok(),
+            Err(_) => false,
+        };
+        self.is_refused = self.is_refused || !is_told;
     }
 
     /// Goes to the next token that is this sign, or to the next name.
@@ -160,48 +162,41 @@ impl<'a, 't> Walk<'a, 't> {
     }
 
     /// Warns of an index that is known to lie outside.
-    fn index(
-        &mut self,
-        name: usize,
-        array: usize,
-        index: &TypedExpression,
-    ) -> Result<(), AllocError> {
+    fn index(&mut self, name: usize, array: usize, index: &TypedExpression) {
         let (Some(value), Some(variable)) = (self.known(index), self.variables.get(array)) else {
-            return Ok(());
+            return;
         };
         let length = variable.length;
         if (value as usize) < length {
-            return Ok(());
+            return;
         }
         let index = number(value, index.integer_type());
         let shown = self.source.token_text(name);
         let elements = if length == 1 { "element" } else { "elements" };
-        let message = format!(in self.alloc;
-            "the index {index} is outside '{shown}', which has {length} {elements}"
+        self.warn(
+            name,
+            &format_args!("the index {index} is outside '{shown}', which has {length} {elements}"),
         );
-        self.warn(name, message)
     }
 
     /// Warns of a left shift of an int, if that is known.
-    fn left_shift(
-        &mut self,
-        sign: usize,
-        left: &TypedExpression,
-        count: u32,
-    ) -> Result<(), AllocError> {
-        let Some(value) = constant(left) else {
-            return Ok(())
-        };
+    fn left_shift(&mut self, sign: usize, left: &TypedExpression, count: u32) {
+        let Some(value) = constant(left) else { return };
         if Sign::Signed.left_shift(value, count).is_some() {
-            return Ok(());
+            return;
         }
         let value = value.cast_signed();
-        let message = if value < 0 {
-            format!(in self.alloc; "{value} << {count} shifts a negative int")
+        if value < 0 {
+            self.warn(
+                sign,
+                &format_args!("{value} << {count} shifts a negative int"),
+            );
         } else {
-            format!(in self.alloc; "{value} << {count} goes beyond 2147483647: shift {value}u")
-        };
-        self.warn(sign, message)
+            self.warn(
+                sign,
+                &format_args!("{value} << {count} goes beyond 2147483647: shift {value}u"),
+            );
+        }
     }
 
     /// Warns of an operator whose right operand is known, if it can be reached.
@@ -211,33 +206,31 @@ impl<'a, 't> Walk<'a, 't> {
         operator: BinaryOp,
         left: &TypedExpression,
         right: &TypedExpression,
-    ) -> Result<(), AllocError> {
+    ) {
         let Some(value) = self.known(right) else {
-            return Ok(())
+            return
         };
-        let message = match operator {
-            BinaryOp::Divide if value == 0 => String::from_str(self.alloc, "a division by 0"),
+        match operator {
+            BinaryOp::Divide if value == 0 => self.warn(sign, &"a division by 0"),
             BinaryOp::Remainder if value == 0 => {
-                String::from_str(self.alloc, "the remainder of a division by 0")
+                self.warn(sign, &"the remainder of a division by 0");
             }
             BinaryOp::ShiftLeft | BinaryOp::ShiftRight if value >= 32 => {
                 let count = number(value, right.integer_type());
-                format!(in self.alloc; "the shift count {count} isn't from 0 to 31")
+                self.warn(
+                    sign,
+                    &format_args!("the shift count {count} isn't from 0 to 31"),
+                );
             }
             BinaryOp::ShiftLeft if left.integer_type() == IntegerType::SignedInt => {
-                return self.left_shift(sign, left, value);
+                self.left_shift(sign, left, value);
             }
-            _ => return Ok(()),
-        };
-        self.warn(sign, message)
+            _ => {}
+        }
     }
 
     /// Goes to the sign after an operator's left operand. Warns if that is a comparison without parentheses, and is compared.
-    fn sign_after(
-        &mut self,
-        left: &TypedExpression,
-        operator: BinaryOp,
-    ) -> Result<usize, AllocError> {
+    fn sign_after(&mut self, left: &TypedExpression, operator: BinaryOp) -> usize {
         let before = self.sign;
         let sign = match mark_of(operator) {
             None => self.cursor,
@@ -247,15 +240,17 @@ impl<'a, 't> Walk<'a, 't> {
             && matches!(left, TypedExpression::Binary(inner, _, _) if is_relation(*inner))
             && self.chains(before, sign)
         {
-            let message = "a comparison of a comparison: a < b < c compares 0 or 1 with c";
-            self.warn(sign, String::from_str(self.alloc, message))?;
+            self.warn(
+                sign,
+                &"a comparison of a comparison: a < b < c compares 0 or 1 with c",
+            );
         }
-        Ok(sign)
+        sign
     }
 
     /// Walks through an expression.
     #[cycle(expressions)]
-    fn expression(&mut self, e: &TypedExpression) -> Result<(), AllocError> {
+    fn expression(&mut self, e: &TypedExpression) {
         match e {
             TypedExpression::Constant(_) => {}
             TypedExpression::Local(_, k) => self.read(*k),
@@ -264,88 +259,85 @@ impl<'a, 't> Walk<'a, 't> {
             }
             TypedExpression::Element(_, parts) => {
                 let (array, index) = &**parts;
-                self.element(*array, index)?;
+                self.element(*array, index);
             }
-            TypedExpression::Unary(_, _, part) => self.expression(part)?,
+            TypedExpression::Unary(_, _, part) => self.expression(part),
             TypedExpression::Binary(operator, _, operands) => {
                 let (left, right) = &**operands;
-                self.expression(left)?;
-                let sign = self.sign_after(left, *operator)?;
-                self.expression_if(reaches_right(*operator, left), right)?;
-                self.operation(sign, *operator, left, right)?;
+                self.expression(left);
+                let sign = self.sign_after(left, *operator);
+                self.expression_if(reaches_right(*operator, left), right);
+                self.operation(sign, *operator, left, right);
                 self.sign = sign;
             }
             TypedExpression::Conditional(_, parts) => {
                 let (test, first, second) = &**parts;
-                self.expression(test)?;
+                self.expression(test);
                 let (can_hold, can_fail) = outcomes(test);
-                self.expression_if(can_hold, first)?;
-                self.expression_if(can_fail, second)?;
+                self.expression_if(can_hold, first);
+                self.expression_if(can_fail, second);
             }
         }
-        Ok(())
     }
 
     /// Walks through an expression that is reached only if this holds.
     #[cycle(expressions)]
-    fn expression_if(&mut self, holds: bool, e: &TypedExpression) -> Result<(), AllocError> {
+    fn expression_if(&mut self, holds: bool, e: &TypedExpression) {
         let is_live = self.is_live;
         self.is_live = is_live && holds;
-        self.expression(e)?;
+        self.expression(e);
         self.is_live = is_live;
-        Ok(())
     }
 
     /// Walks through an array's name and an index of it.
     #[cycle(expressions)]
-    fn element(&mut self, array: usize, index: &TypedExpression) -> Result<(), AllocError> {
+    fn element(&mut self, array: usize, index: &TypedExpression) {
         let name = self.next_name();
-        self.expression(index)?;
-        self.index(name, array, index)
+        self.expression(index);
+        self.index(name, array, index);
     }
 
     /// Walks through a call, after which nothing is reached where it never ends.
-    fn call(&mut self, function: usize, arguments: &[TypedExpression]) -> Result<(), AllocError> {
+    fn call(&mut self, function: usize, arguments: &[TypedExpression]) {
         self.next_name();
         for argument in arguments {
-            self.expression(argument)?;
+            self.expression(argument);
         }
         if self.endless.get(function) == Some(&true) {
             self.is_live = false;
         }
-        Ok(())
     }
 
     /// Walks through a test; the answer is whether what comes where it holds can be reached, and what comes where it fails.
-    fn test(&mut self, test: &TypedExpression) -> Result<(bool, bool), AllocError> {
-        self.expression(test)?;
+    fn test(&mut self, test: &TypedExpression) -> (bool, bool) {
+        self.expression(test);
         let (can_hold, can_fail) = outcomes(test);
-        Ok((self.is_live && can_hold, self.is_live && can_fail))
+        (self.is_live && can_hold, self.is_live && can_fail)
     }
 
     /// Walks through a statement without parts that are statements.
-    fn simple(&mut self, s: &TypedStatement) -> Result<(), AllocError> {
+    fn simple(&mut self, s: &TypedStatement) {
         match s {
             TypedStatement::Unset(_) => {
                 self.next_name();
             }
             TypedStatement::Assign(place, e) => {
                 self.assign(*place);
-                self.expression(e)?;
+                self.expression(e);
             }
             TypedStatement::Store(array, index, e) => {
-                self.element(*array, index)?;
-                self.expression(e)?;
+                self.element(*array, index);
+                self.expression(e);
             }
             TypedStatement::Call(place, function, arguments) => {
                 if let Some(place) = place {
                     self.assign(*place);
                 }
-                self.call(*function, arguments)?;
+                self.call(*function, arguments);
             }
             TypedStatement::Output(e) => {
                 self.next_name();
-                self.expression(e)?;
+                self.expression(e);
             }
             TypedStatement::Break => {
                 self.has_break = self.has_break || self.is_live;
@@ -354,94 +346,89 @@ impl<'a, 't> Walk<'a, 't> {
             TypedStatement::Continue => self.is_live = false,
             TypedStatement::Return(value) => {
                 if let Some(e) = value {
-                    self.expression(e)?;
+                    self.expression(e);
                 }
                 self.has_return = self.has_return || self.is_live;
                 self.is_live = false;
             }
             _ => {}
         }
-        Ok(())
     }
 
     /// Walks through a statement. A loop ends by a `break`, or where its test may fail.
     #[cycle(statements)]
-    fn statement(&mut self, s: &TypedStatement) -> Result<(), AllocError> {
+    fn statement(&mut self, s: &TypedStatement) {
         match s {
-            TypedStatement::Block(all) => self.statements(all)?,
+            TypedStatement::Block(all) => self.statements(all),
             TypedStatement::If(test, first, second) => {
-                let (holds, fails) = self.test(test)?;
+                let (holds, fails) = self.test(test);
                 self.is_live = holds;
-                self.statement(first)?;
+                self.statement(first);
                 let goes_on = mem::replace(&mut self.is_live, fails);
-                self.statement(second)?;
+                self.statement(second);
                 self.is_live = self.is_live || goes_on;
             }
             TypedStatement::Loop(test, last, body) => {
-                let (holds, fails) = self.test(test)?;
+                let (holds, fails) = self.test(test);
                 self.is_live = holds;
-                self.statement(last)?;
+                self.statement(last);
                 self.is_live = holds;
                 let outer = mem::replace(&mut self.has_break, false);
-                self.statement(body)?;
+                self.statement(body);
                 self.is_live = mem::replace(&mut self.has_break, outer) || fails;
             }
-            _ => self.simple(s)?,
+            _ => self.simple(s),
         }
-        Ok(())
     }
 
     /// Walks through the statements of a block or of a function's body.
     #[cycle(statements)]
-    fn statements(&mut self, all: &[TypedStatement]) -> Result<(), AllocError> {
+    fn statements(&mut self, all: &[TypedStatement]) {
         for s in all {
-            self.statement(s)?;
+            self.statement(s);
         }
-        Ok(())
     }
 
     /// Begins at the brace of a function, whose parameters are assigned.
-    fn enter(&mut self, name: usize, typed: &Function) -> Result<(), AllocError> {
+    fn enter(&mut self, name: usize, typed: &Function) {
         self.cursor = name;
         self.next(Some(Mark::LeftBrace));
         self.locals.clear();
         for k in 0..typed.locals {
-            self.locals.push(if k < typed.parameters {
+            let local = if k < typed.parameters {
                 Local::Assigned
             } else {
                 Local::Unset
-            })?;
+            };
+            self.is_refused = self.is_refused || self.locals.push(local).is_err();
         }
         (self.is_live, self.has_break, self.has_return) = (true, false, false);
-        Ok(())
     }
 
     /// Warns of each local that is read and never assigned.
-    fn unset_locals(&mut self) -> Result<(), AllocError> {
+    fn unset_locals(&mut self) {
         for k in 0..self.locals.len() {
             if let Some(Local::Read(name)) = self.locals.get(k).copied() {
                 let shown = self.source.token_text(name);
-                let message = format!(in self.alloc; "'{shown}' is read and never assigned");
-                self.warn(name, message)?;
+                self.warn(name, &format_args!("'{shown}' is read and never assigned"));
             }
         }
-        Ok(())
     }
 
     /// Walks through a function, the token of whose name this is.
-    fn function(&mut self, name: usize, typed: &Function) -> Result<(), AllocError> {
-        self.enter(name, typed)?;
-        self.statements(&typed.body)?;
-        self.unset_locals()?;
-        self.endless.push(!self.is_live && !self.has_return)?;
+    fn function(&mut self, name: usize, typed: &Function) {
+        self.enter(name, typed);
+        self.statements(&typed.body);
+        self.unset_locals();
+        let is_endless = !self.is_live && !self.has_return;
+        self.is_refused = self.is_refused || self.endless.push(is_endless).is_err();
         if self.is_live {
             let shown = self.source.token_text(name);
-            let message = format!(in self.alloc;
-                "the end of '{shown}' can be reached without a return"
+            self.warn(
+                name,
+                &format_args!("the end of '{shown}' can be reached without a return"),
             );
-            self.warn(name, message)?;
         }
-        Ok(())
     }
 }
 
@@ -466,14 +453,18 @@ pub(crate) fn walked(
         has_break: false,
         has_return: false,
         endless: Vec::new(alloc),
+        is_refused: false,
     };
     let mut typed = functions.iter();
     for declaration in &program.declarations {
         if let Declaration::Function(function) = declaration
             && let Some(typed) = typed.next()
         {
-            walk.function(source.index_of(function.name.at as usize), typed)?;
+            walk.function(source.index_of(function.name.at as usize), typed);
         }
+    }
+    if walk.is_refused {
+        return Err(AllocError);
     }
     Ok(walk.warnings)
 }
