@@ -15,15 +15,16 @@ use words::Width;
 #[rattlefmt::skip]
 const OTHERS: [Place; 5] = [Place::Hi, Place::Lo, Place::Memory, Place::Exit, Place::Guards];
 
-/// Writes the two targets of a branch.
-fn put_sides(out: &mut Writer, then: BlockNumber, other: BlockNumber) {
-    out.put(&format_args!(" ? {} : {}", then.number(), other.number()));
+/// Writes the number of a block behind a text.
+pub(crate) fn put_target(out: &mut Writer, before: &str, target: BlockNumber) {
+    out.text(before);
+    out.put(&target.number());
 }
 
 /// Writes the exit by the terms that it reads and its targets.
 fn put_exit(out: &mut Writer, exit: TermExit, first: &Page, second: &Page) {
     match exit {
-        TermExit::Goto(target) => out.put(&format_args!("goto {}", target.number())),
+        TermExit::Goto(target) => put_target(out, "goto ", target),
         TermExit::BranchPair {
             test,
             then,
@@ -33,7 +34,8 @@ fn put_exit(out: &mut Writer, exit: TermExit, first: &Page, second: &Page) {
             out.page(first);
             out.text(pair_sign(test));
             out.page(second);
-            put_sides(out, then, other);
+            put_target(out, " ? ", then);
+            put_target(out, " : ", other);
         }
         TermExit::BranchZero {
             test,
@@ -43,10 +45,12 @@ fn put_exit(out: &mut Writer, exit: TermExit, first: &Page, second: &Page) {
         } => {
             out.page(first);
             out.text(zero_sign(test));
-            put_sides(out, then, other);
+            put_target(out, " ? ", then);
+            put_target(out, " : ", other);
         }
         TermExit::Call { function, next } => {
-            out.put(&format_args!("call {}, then {}", function.number(), next.number()));
+            put_target(out, "call ", function);
+            put_target(out, ", then ", next);
         }
         TermExit::Return(_) => {
             out.text("return to ");
@@ -55,7 +59,7 @@ fn put_exit(out: &mut Writer, exit: TermExit, first: &Page, second: &Page) {
         TermExit::Out { next, .. } => {
             out.text("out ");
             out.page(first);
-            out.put(&format_args!(", then {}", next.number()));
+            put_target(out, ", then ", next);
         }
         TermExit::Halt(_) => {
             out.text("halt with ");
@@ -72,10 +76,23 @@ fn exit_page(alloc: Global, left: &mut Left, depth: u32) -> Result<Page, AllocEr
     out.end()
 }
 
-fn width_name(width: Width) -> &'static str {
-    match width {
-        Width::Word => "word",
-        Width::Byte => "byte",
+/// Writes a guard by the terms that it reads.
+fn put_guard(out: &mut Writer, guard: Guard, first: &Page, second: &Page) {
+    match guard {
+        Guard::Address { width, .. } => {
+            out.text(match width {
+                Width::Word => "word at ",
+                Width::Byte => "byte at ",
+            });
+            out.page(first);
+        }
+        Guard::Division { sign, .. } => {
+            out.text(Mnemonic::Divide(sign).name());
+            out.text(" ");
+            out.page(first);
+            out.text(" by ");
+            out.page(second);
+        }
     }
 }
 
@@ -83,24 +100,14 @@ fn width_name(width: Width) -> &'static str {
 fn guard_page(
     alloc: Global,
     left: &mut Left,
-    guard: Guard,
     number: usize,
     depth: u32,
 ) -> Result<Page, AllocError> {
     let first = root_page(alloc, left, Root::Guard(number, true), depth)?;
+    let second = root_page(alloc, left, Root::Guard(number, false), depth)?;
     let mut out = Writer::new(alloc);
-    match guard {
-        Guard::Address { width, .. } => {
-            out.put(&format_args!("{} at ", width_name(width)));
-            out.page(&first);
-        }
-        Guard::Division { sign, .. } => {
-            let second = root_page(alloc, left, Root::Guard(number, false), depth)?;
-            out.put(&format_args!("{} ", Mnemonic::Divide(sign).name()));
-            out.page(&first);
-            out.text(" by ");
-            out.page(&second);
-        }
+    if let Some(guard) = left.guards().get(number) {
+        put_guard(&mut out, *guard, &first, &second);
     }
     out.end()
 }
@@ -115,10 +122,7 @@ fn guards_page(alloc: Global, left: &mut Left, depth: u32) -> Result<Page, Alloc
     let mut pages = Vec::new(alloc);
     let mut out = Writer::new(alloc);
     for number in 0..left.guards().len() {
-        let Some(guard) = left.guards().get(number).copied() else {
-            break;
-        };
-        let page = guard_page(alloc, left, guard, number, depth)?;
+        let page = guard_page(alloc, left, number, depth)?;
         if !is_among(pages.as_slice(), &page) {
             out.text(if pages.is_empty() { "" } else { "; " });
             out.page(&page);

@@ -77,12 +77,9 @@ fn shown_word<'t>(bytes: &'t [u8]) -> &'t str {
     str::from_utf8(bytes).unwrap_or("?")
 }
 
-/// Returns the form of an instruction that a word names.
-fn instruction(word: &[u8]) -> Option<Form> {
-    if word == b"nop".as_slice() {
-        return Some(("", ALONE));
-    }
-    Some(match mnemonic_named(word)? {
+/// Returns the form of the instructions of a mnemonic.
+fn form(mnemonic: Mnemonic) -> Form {
+    match mnemonic {
         Mnemonic::Shift(_) => (" $rd,$rt,n", SMALL),
         Mnemonic::ShiftBy(_) => (" $rd,$rt,$rs", NO_NUMBER),
         Mnemonic::Alu(_) => (" $rd,$rs,$rt", NO_NUMBER),
@@ -92,7 +89,15 @@ fn instruction(word: &[u8]) -> Option<Form> {
         Mnemonic::MoveFrom(_) => (" $rd", NO_NUMBER),
         Mnemonic::Multiply(_) | Mnemonic::Divide(_) => (" $rs,$rt", NO_NUMBER),
         Mnemonic::Load(_) | Mnemonic::Store(_) => (" $rt,n($base)", SIGNED),
-    })
+    }
+}
+
+/// Returns the form of an instruction that a word names.
+fn instruction(word: &[u8]) -> Option<Form> {
+    if word == b"nop".as_slice() {
+        return Some(("", ALONE));
+    }
+    Some(form(mnemonic_named(word)?))
 }
 
 /// Returns the form of an exit that a word names.
@@ -100,13 +105,14 @@ fn exit(word: &[u8]) -> Option<Form> {
     if matches!(word, b"return" | b"halt") {
         return Some(("", ALONE));
     }
-    Some(match exit_named(word)? {
-        ExitName::Goto => (" T", BLOCKS),
-        ExitName::BranchPair(_) => (" $s,$t,T,E", BLOCKS),
-        ExitName::BranchZero(_) => (" $s,T,E", BLOCKS),
-        ExitName::Call => (" F,N", BLOCKS),
-        ExitName::Out => (" N", BLOCKS),
-    })
+    let operands = match exit_named(word)? {
+        ExitName::Goto => " T",
+        ExitName::BranchPair(_) => " $s,$t,T,E",
+        ExitName::BranchZero(_) => " $s,T,E",
+        ExitName::Call => " F,N",
+        ExitName::Out => " N",
+    };
+    Some((operands, BLOCKS))
 }
 
 /// Returns what to write in place of a mnemonic that assemblers have and check texts haven't.
@@ -117,15 +123,15 @@ fn other(word: &[u8]) -> Option<&'static str> {
 
 /// Returns what has to stand after a line that stands in its place.
 fn stage_after(stage: Stage, line: &[u8]) -> Stage {
+    let word = mnemonic(line);
+    let is_exit = exit(word).is_some();
     match stage {
         Stage::Block => Stage::InBlock(0),
-        Stage::InBlock(_) if exit(mnemonic(line)).is_some() => Stage::Order,
+        Stage::InBlock(_) if is_exit => Stage::Order,
         Stage::InBlock(n) => Stage::InBlock(n.saturating_add(1)),
         Stage::Order => Stage::InOrder(0),
-        Stage::InOrder(_) if exit(mnemonic(line)).is_some() => match mnemonic(line) {
-            b"out" | b"halt" => Stage::NoSlot,
-            _ => Stage::Slot,
-        },
+        Stage::InOrder(_) if matches!(word, b"out" | b"halt") => Stage::NoSlot,
+        Stage::InOrder(_) if is_exit => Stage::Slot,
         Stage::InOrder(n) => Stage::InOrder(n.saturating_add(1)),
         Stage::Slot | Stage::NoSlot | Stage::Nothing => Stage::Nothing,
     }
@@ -193,8 +199,11 @@ fn say_inside(said: &mut Said, line: &[u8], before: usize, most: usize, part: &s
     if before < most || instruction(mnemonic(line)).is_none() {
         return say_instruction(said, line);
     }
-    let count = before.saturating_add(1);
-    said.message.put(&format_args!("{count} instructions in {part}: at most {most}"));
+    said.message.put(&before.saturating_add(1));
+    said.say(" instructions in ");
+    said.say(part);
+    said.say(": at most ");
+    said.message.put(&most);
 }
 
 /// Returns what has to stand at a stage.

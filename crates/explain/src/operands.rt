@@ -1,6 +1,7 @@
 //! Hints about the operands of a line: what assemblers take and check texts don't.
 
-use block_text::cut;
+use block_text::{cut, mnemonic_named};
+use mips_isa::{AluOp, ImmOp, LogicOp, Mnemonic};
 use std::str;
 use text::Said;
 
@@ -13,19 +14,6 @@ const REGISTERS: &[&[u8]] = &[
     b"$t8", b"$t9", b"$k0", b"$k1", b"$gp", b"$sp", b"$fp", b"$ra",
 ];
 
-/// Instructions of three registers, those that have a number in place of the third, and the least and greatest one.
-const WITH_NUMBER: &[(&[u8], &str, i32, i32)] = &[
-    (b"addu", "addiu", -32768, 32767),
-    (b"slt", "slti", -32768, 32767),
-    (b"sltu", "sltiu", -32768, 32767),
-    (b"and", "andi", 0, 65535),
-    (b"or", "ori", 0, 65535),
-    (b"xor", "xori", 0, 65535),
-    (b"sllv", "sll", 0, 31),
-    (b"srlv", "srl", 0, 31),
-    (b"srav", "sra", 0, 31),
-];
-
 /// Returns the number of a register that assemblers name so.
 fn register_number(operand: &[u8]) -> Option<usize> {
     if operand == b"$s8".as_slice() {
@@ -34,32 +22,31 @@ fn register_number(operand: &[u8]) -> Option<usize> {
     REGISTERS.iter().position(|name| *name == operand)
 }
 
-/// Returns the value of a number that is written in hexadecimal, and whether a minus stands before it.
-fn hexadecimal(operand: &[u8]) -> Option<(bool, u32)> {
-    let (is_negative, number) = match operand {
-        [b'-', number @ ..] => (true, number),
-        number => (false, number),
+/// Returns the sign and the value of a number that is written in hexadecimal.
+fn hexadecimal(operand: &[u8]) -> Option<(&'static str, u32)> {
+    let (sign, number) = match operand {
+        [b'-', number @ ..] => ("-", number),
+        number => ("", number),
     };
-    match number {
-        [b'0', b'x' | b'X', digits @ ..] => {
-            let digits = str::from_utf8(digits).unwrap_or("");
-            Some((is_negative, u32::from_str_radix(digits, 16).ok()?))
-        }
-        _ => None,
-    }
+    let [b'0', b'x' | b'X', digits @ ..] = number else {
+        return None;
+    };
+    let digits = str::from_utf8(digits).unwrap_or("");
+    Some((sign, u32::from_str_radix(digits, 16).ok()?))
 }
 
 /// Says what is wrong with an operand that an assembler takes. Reports whether it said something.
 fn say_hint_of_operand(said: &mut Said, operand: &[u8]) -> bool {
     if let Some(number) = register_number(operand) {
-        let name = str::from_utf8(operand).unwrap_or("?");
-        said.hint.put(&format_args!("{name} is ${number}"));
+        said.hint(str::from_utf8(operand).unwrap_or("?"));
+        said.hint(" is $");
+        said.hint.put(&number);
         return true;
     }
-    if let Some((is_negative, value)) = hexadecimal(operand) {
-        let sign = if is_negative { "-" } else { "" };
-        said.hint
-            .put(&format_args!("numbers are decimal: {sign}{value}"));
+    if let Some((sign, value)) = hexadecimal(operand) {
+        said.hint("numbers are decimal: ");
+        said.hint(sign);
+        said.hint.put(&value);
         return true;
     }
     false
@@ -75,15 +62,27 @@ fn first_operand<'t>(operands: &'t [u8]) -> (&'t [u8], &'t [u8]) {
     (operands, b"")
 }
 
+/// Returns the instruction that has a number in place of the third register, and the least and greatest one.
+fn immediate(mnemonic: Mnemonic) -> Option<(Mnemonic, i32, i32)> {
+    match mnemonic {
+        Mnemonic::Alu(AluOp::Addu) => Some((Mnemonic::Imm(ImmOp::Addiu), -32768, 32767)),
+        Mnemonic::Alu(AluOp::Slt) => Some((Mnemonic::Imm(ImmOp::Slti), -32768, 32767)),
+        Mnemonic::Alu(AluOp::Sltu) => Some((Mnemonic::Imm(ImmOp::Sltiu), -32768, 32767)),
+        Mnemonic::Alu(AluOp::And) => Some((Mnemonic::Logic(LogicOp::Andi), 0, 65535)),
+        Mnemonic::Alu(AluOp::Or) => Some((Mnemonic::Logic(LogicOp::Ori), 0, 65535)),
+        Mnemonic::Alu(AluOp::Xor) => Some((Mnemonic::Logic(LogicOp::Xori), 0, 65535)),
+        Mnemonic::ShiftBy(op) => Some((Mnemonic::Shift(op), 0, 31)),
+        _ => None,
+    }
+}
+
 /// Returns the instruction that takes the number that stands in place of a third register.
 fn with_number(word: &[u8], operands: &[u8]) -> Option<&'static str> {
     let (_, others) = first_operand(operands);
     let (_, last) = first_operand(others);
     let number = str::from_utf8(last).ok()?.parse::<i32>().ok()?;
-    let found = WITH_NUMBER
-        .iter()
-        .find(|row| row.0 == word && row.2 <= number && number <= row.3)?;
-    Some(found.1)
+    let (found, least, greatest) = immediate(mnemonic_named(word)?)?;
+    (least <= number && number <= greatest).then_some(found.name())
 }
 
 /// Says what to write in place of a line with this mnemonic, where one of its operands is an assembler's. Reports whether it said something.
@@ -105,7 +104,9 @@ pub(crate) fn say_hint_of_operands(said: &mut Said, word: &[u8], line: &[u8]) ->
     let Some(other) = with_number(word, halves.after) else {
         return false;
     };
-    let operands = str::from_utf8(halves.after).unwrap_or("");
-    said.hint.put(&format_args!("write {other} {operands}"));
+    said.hint("write ");
+    said.hint(other);
+    said.hint(" ");
+    said.hint(str::from_utf8(halves.after).unwrap_or(""));
     true
 }

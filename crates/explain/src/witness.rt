@@ -1,5 +1,6 @@
 //! A start that refutes an order, as lines.
 
+use crate::left::put_target;
 use counterexample::{
     Departs, Difference, Left, Start, Witness, find_start, loaded_words, run_block, run_order,
 };
@@ -64,6 +65,12 @@ fn moves_before_product(insts: &[Plain]) -> bool {
     matches!(first, Some(inst) if !inst.action().is_product())
 }
 
+/// Writes a word behind a text.
+fn put_word(out: &mut Writer, before: &str, word: u32) {
+    out.text(before);
+    out.put(&WordDigits(word));
+}
+
 /// Writes HI and LO, if they are read, and the words of memory that are loaded.
 fn put_rest(
     alloc: Global,
@@ -73,13 +80,14 @@ fn put_rest(
     start: &Start,
 ) -> Result<(), AllocError> {
     if moves_before_product(block.insts()) || moves_before_product(order.insts()) {
-        let (hi, lo) = (WordDigits(start.hi), WordDigits(start.lo));
-        out.put(&format_args!("  hi = 0x{hi}\n  lo = 0x{lo}\n"));
+        put_word(out, "  hi = 0x", start.hi);
+        put_word(out, "\n  lo = 0x", start.lo);
+        out.text("\n");
     }
     for address in &loaded_words(alloc, block, order, start)? {
-        let word = WordDigits(start.filling.word(*address / 4));
-        let address = WordDigits(*address);
-        out.put(&format_args!("  the word at 0x{address} = 0x{word}\n"));
+        put_word(out, "  the word at 0x", *address);
+        put_word(out, " = 0x", start.filling.word(*address / 4));
+        out.text("\n");
     }
     Ok(())
 }
@@ -87,28 +95,28 @@ fn put_rest(
 /// Writes where a side goes on.
 fn put_departs(out: &mut Writer, departs: &Departs) {
     match *departs {
-        Departs::To(t) => out.put(&format_args!("goes to {}", t.number())),
-        Departs::Calls { function, .. } => out.put(&format_args!("calls {}", function.number())),
-        Departs::Back(link) => out.put(&format_args!("returns to 0x{}", WordDigits(link))),
-        Departs::Prints { word, .. } => out.put(&format_args!("prints 0x{}", WordDigits(word))),
-        Departs::Halts(word) => out.put(&format_args!("ends with 0x{}", WordDigits(word))),
+        Departs::To(t) => put_target(out, "goes to ", t),
+        Departs::Calls { function, .. } => put_target(out, "calls ", function),
+        Departs::Back(link) => put_word(out, "returns to 0x", link),
+        Departs::Prints { word, .. } => put_word(out, "prints 0x", word),
+        Departs::Halts(word) => put_word(out, "ends with 0x", word),
     }
 }
 
 /// Writes what one side leaves where the two differ.
 fn put_side(out: &mut Writer, side: &str, left: &Left, difference: &Difference) {
-    out.put(&format_args!("  {side}: "));
+    out.text(side);
     let now = &left.registers;
     match *difference {
         Difference::Register(r) => {
-            let word = WordDigits(now.regs[r.index() as usize]);
-            out.put(&format_args!("{r} = 0x{word}"));
+            out.put(&r);
+            put_word(out, " = 0x", now.regs[r.index() as usize]);
         }
-        Difference::Hi => out.put(&format_args!("hi = 0x{}", WordDigits(now.hi))),
-        Difference::Lo => out.put(&format_args!("lo = 0x{}", WordDigits(now.lo))),
+        Difference::Hi => put_word(out, "hi = 0x", now.hi),
+        Difference::Lo => put_word(out, "lo = 0x", now.lo),
         Difference::Memory(a) => {
-            let byte = WordDigits(u32::from(now.memory.byte(a)));
-            out.put(&format_args!("the byte at 0x{} = 0x{byte}", WordDigits(a)));
+            put_word(out, "the byte at 0x", a);
+            put_word(out, " = 0x", u32::from(now.memory.byte(a)));
         }
         Difference::Exit => put_departs(out, &left.goes),
         Difference::Stuck => out.text("isn't stuck"),
@@ -139,10 +147,10 @@ pub fn put_found(
     put_start(out, block, order, &start, &difference);
     put_rest(alloc, out, block, order, &start)?;
     if let Some(left) = run_block(alloc, block, &start, link)? {
-        put_side(out, "block", &left, &difference);
+        put_side(out, "  block: ", &left, &difference);
     }
     match run_order(alloc, order, &start, link)? {
-        Some(left) => put_side(out, "order", &left, &difference),
+        Some(left) => put_side(out, "  order: ", &left, &difference),
         None => out.text("  order: is stuck\n"),
     }
     Ok(())
