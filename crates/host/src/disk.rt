@@ -2,13 +2,15 @@
 
 ghost use Rattle.std.specs.Prelude.{⊤};
 
-use crate::stack::LONGEST_TEXT;
-use host::{FileFault, Files};
+use crate::files::{FileFault, Files};
 use std::alloc::Global;
 use std::fs::{File, Metadata, OpenFile, OpenOptions};
 use std::io::{ErrorKind, Read, Write};
 use std::rt::Files as HostFiles;
 use std::{fs, io};
+
+/// The longest text that a command reads deeply, in bytes. It refuses a longer one at once.
+pub const LONGEST_TEXT: usize = 1_048_576;
 
 /// The bytes of the longest legal file, an image: its head and counts, 1,048,576 words of code and 1,048,576 bytes of data.
 const LONGEST_FILE: u64 = 44 + 4 * 1_048_576 + 1_048_576;

@@ -1,4 +1,4 @@
-//! What the commands of the program share: files, errors, and where an error lies.
+//! What the commands of the program share: files, errors, and where an error lies. `Disk` has the files of the system.
 //!
 //! Definitions: `specs/Texts.antt`, `specs/Requests.antt`, `specs/Hosts.antt`, `specs/OneFile.antt`.
 //! Contract: `answer_file`, `read_file`, `write_file`, `tell`, `tell_file`, `tell_placed`, `print_name`
@@ -6,6 +6,7 @@
 //! - What is printed below an error steers no terminal.
 #![tactic(auto)]
 
+mod disk;
 mod fault;
 mod files;
 mod host;
@@ -15,8 +16,10 @@ mod numbers;
 mod one_file;
 mod output;
 mod place;
+mod streams;
 mod wrong_words;
 
+pub use disk::{Disk, LONGEST_TEXT};
 pub use fault::{Complaints, HostFault, tell};
 pub use files::{FileFault, Files, read_file, write_file};
 pub use host::Host;
@@ -26,4 +29,5 @@ pub use numbers::{FormedWord, WordForm};
 pub use one_file::{BadFile, Broken, FileCommand, answer_file};
 pub use output::Output;
 pub use place::{Place, Spot, line_offset, spot_of, tell_placed};
+pub use streams::UntilRefused;
 pub use wrong_words::tell_words;

@@ -5,13 +5,14 @@ use std::io::{ErrorKind, Write};
 
 /// A stream that takes nothing after a write that it refused. A buffer before it writes again when it is dropped.
 #[derive(Drop)]
-pub(crate) struct UntilRefused<W> {
+pub struct UntilRefused<W> {
     inner: W,
     is_refused: bool,
 }
 
 impl<W: Write> UntilRefused<W> {
-    pub(crate) fn new(inner: W) -> UntilRefused<W> {
+    /// Returns the stream before any write.
+    pub fn new(inner: W) -> UntilRefused<W> {
         UntilRefused {
             inner,
             is_refused: false,

@@ -11,9 +11,7 @@
 #![tactic(auto)]
 
 mod arguments;
-mod files;
 mod stack;
-mod streams;
 mod system;
 
 ghost use Rattle.std.specs.Prelude.{map};

@@ -1,9 +1,7 @@
 //! The stack of the thread that does a command's work.
 
+use host::LONGEST_TEXT;
 use std::rt::Files as HostFiles;
-
-/// The longest text that a command reads deeply, in bytes. It refuses a longer one at once.
-pub(crate) const LONGEST_TEXT: usize = 1_048_576;
 
 /// What a command needs whatever its text is, in bytes.
 const LEAST: usize = 0x100_0000;

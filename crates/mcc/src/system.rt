@@ -2,10 +2,8 @@
 
 use crate::answer;
 use crate::arguments::{named_words, owned_words, tell_no_words};
-use crate::files::Disk;
 use crate::stack::{longest_text, stack_for};
-use crate::streams::UntilRefused;
-use host::{Complaints, Files, HostFault, Output, tell};
+use host::{Complaints, Disk, Files, HostFault, Output, UntilRefused, tell};
 use std::alloc::Global;
 use std::io::{BufWriter, Write};
 use std::process::ExitCode;
