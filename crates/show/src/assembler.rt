@@ -110,16 +110,13 @@ fn put_control(
     labels: &[Label<'_>],
 ) -> Result<(), AllocError> {
     let text = format!(in alloc; "{}", ListedControl { control, address })?;
-    if let Some(target) = target_of(&control, address)
-        && let Some((before, _)) = text.split_once("0x")
-    {
-        out.text(before);
+    let (before, _) = text.split_once("0x").unwrap_or((text.as_str(), ""));
+    out.text(before);
+    if let Some(target) = target_of(&control, address) {
         match name_at(labels, target) {
             Some(name) => out.text(name),
             None => out.put(&format_args!("L{}", WordDigits(target))),
         }
-    } else {
-        out.text(text.as_str());
     }
     Ok(())
 }
@@ -143,30 +140,30 @@ fn put_form(
     Ok(())
 }
 
-/// Writes the name of an address, if it has one, as a global label.
-fn put_name(out: &mut Writer, labels: &[Label<'_>], address: u32) {
-    if let Some(name) = name_at(labels, address) {
-        out.put(&format_args!(".globl {name}\n{name}:\n"));
+/// Writes the name of an address as a global label. A target without a name has a label of the source itself.
+fn put_name(out: &mut Writer, labels: &[Label<'_>], address: u32, is_target: bool) {
+    match name_at(labels, address) {
+        Some(name) => out.put(&format_args!(".globl {name}\n{name}:\n")),
+        None if is_target => out.put(&format_args!("L{}:\n", WordDigits(address))),
+        None => {}
     }
 }
 
+/// Writes the code, where these words of it are marked as targets.
 fn put_code(
     alloc: Global,
     out: &mut Writer,
     image: &Image,
+    marks: &[bool],
     labels: &[Label<'_>],
 ) -> Result<(), AllocError> {
     let code = image.code();
-    let marks = targets(alloc, code)?;
     let mut address = CODE_BASE;
     for (word, is_target) in code.iter().zip(marks.iter()) {
         if address == image.entry() {
             out.text("__start:\n");
         }
-        put_name(out, labels, address);
-        if *is_target && name_at(labels, address).is_none() {
-            out.put(&format_args!("L{}:\n", WordDigits(address)));
-        }
+        put_name(out, labels, address, *is_target);
         let form = form_of(*word, address, code.len());
         put_form(alloc, out, form, address, labels)?;
         address = address.wrapping_add(4);
@@ -193,7 +190,7 @@ fn put_data(out: &mut Writer, bytes: &[u8], labels: &[Label<'_>]) {
     out.text(".data\n");
     let mut address = DATA_BASE;
     for part in bytes.chunks(4) {
-        put_name(out, labels, address);
+        put_name(out, labels, address, false);
         put_bytes(out, part);
         address = address.wrapping_add(4);
     }
@@ -207,7 +204,8 @@ pub(crate) fn put_source(
     labels: &[Label<'_>],
 ) -> Result<(), AllocError> {
     out.text(HEAD);
-    put_code(alloc, out, image, labels)?;
+    let marks = targets(alloc, image.code())?;
+    put_code(alloc, out, image, marks.as_slice(), labels)?;
     put_data(out, image.bytes(), labels);
     Ok(())
 }

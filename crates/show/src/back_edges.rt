@@ -30,6 +30,7 @@ struct Walk<'a> {
     visits: Vec<Visit>,
     way: Vec<usize>,
     back: Vec<[bool; 2]>,
+    is_refused: bool,
 }
 
 impl<'a> Walk<'a> {
@@ -48,60 +49,57 @@ impl<'a> Walk<'a> {
         }
     }
 
-    /// Takes an edge of a node: to a new node, or marks it where it goes back.
-    fn take(&mut self, node: usize, edge: usize) -> Result<(), AllocError> {
-        let Some(to) = self.target(node, edge) else {
-            return Ok(());
-        };
-        match self.visit(to) {
-            Visit::Unseen => {
-                self.set(to, Visit::Open(0));
-                self.way.push(to)?;
-            }
-            Visit::Open(_) => {
-                if let Some(marks) = self.back.get_mut(node)
-                    && let Some(mark) = marks.get_mut(edge)
-                {
-                    *mark = true;
-                }
-            }
-            Visit::Done => {}
+    /// Goes on to a new node.
+    fn enter(&mut self, node: usize) {
+        self.set(node, Visit::Open(0));
+        self.is_refused = self.is_refused || self.way.push(node).is_err();
+    }
+
+    /// Marks an edge of a node as one that goes back.
+    fn mark(&mut self, node: usize, edge: usize) {
+        if let Some(marks) = self.back.get_mut(node)
+            && let Some(mark) = marks.get_mut(edge)
+        {
+            *mark = true;
         }
-        Ok(())
+    }
+
+    /// Takes an edge of a node: to a new node, or marks it where it goes back.
+    fn take(&mut self, node: usize, edge: usize) {
+        if let Some(to) = self.target(node, edge) {
+            match self.visit(to) {
+                Visit::Unseen => self.enter(to),
+                Visit::Open(_) => self.mark(node, edge),
+                Visit::Done => {}
+            }
+        }
     }
 
     /// Goes on from the last node of the way: by its next edge, or back.
-    fn go_on(&mut self) -> Result<(), AllocError> {
-        let Some(node) = self.way.last().copied() else {
-            return Ok(());
-        };
+    fn go_on(&mut self, node: usize) {
         match self.visit(node) {
             Visit::Open(edge) if edge < 2 => {
                 self.set(node, Visit::Open(edge + 1));
-                self.take(node, edge)?;
+                self.take(node, edge);
             }
             _ => {
                 self.set(node, Visit::Done);
                 self.way.pop();
             }
         }
-        Ok(())
     }
 
     /// Walks from a node; each node has two edges to take and is left once.
-    fn walk_from(&mut self, root: usize) -> Result<(), AllocError> {
-        if self.visit(root) != Visit::Unseen {
-            return Ok(());
+    fn walk_from(&mut self, root: usize) {
+        if self.visit(root) == Visit::Unseen {
+            self.enter(root);
         }
-        self.set(root, Visit::Open(0));
-        self.way.push(root)?;
         for _ in 0..self.nodes.len().saturating_mul(3) {
-            if self.way.is_empty() {
+            let Some(node) = self.way.last().copied() else {
                 break;
-            }
-            self.go_on()?;
+            };
+            self.go_on(node);
         }
-        Ok(())
     }
 }
 
@@ -112,9 +110,13 @@ pub(crate) fn back_edges(alloc: Global, nodes: &[Node]) -> Result<Vec<[bool; 2]>
         visits: vec![in alloc; Visit::Unseen; nodes.len()]?,
         way: Vec::new(alloc),
         back: vec![in alloc; [false; 2]; nodes.len()]?,
+        is_refused: false,
     };
     for root in 0..nodes.len() {
-        walk.walk_from(root)?;
+        walk.walk_from(root);
+    }
+    if walk.is_refused {
+        return Err(AllocError);
     }
     Ok(walk.back)
 }

@@ -17,6 +17,7 @@ pub(crate) struct Names<'t> {
     text: &'t [u8],
     functions: Vec<FunctionNames>,
     globals: Vec<Identifier>,
+    is_refused: bool,
 }
 
 fn is_type(token: Option<Token>) -> bool {
@@ -48,13 +49,14 @@ impl<'t> Names<'t> {
             text,
             functions: Vec::new(alloc),
             globals: Vec::new(alloc),
+            is_refused: false,
         };
         let mut before = None;
         let mut open = 0usize;
         for (k, token) in tokens.iter().enumerate() {
             match *token {
                 Token::Name(name) if is_type(before) => {
-                    names.declare(alloc, name, open, is_paren(tokens.get(k + 1)))?;
+                    names.declare(alloc, name, open, is_paren(tokens.get(k + 1)));
                 }
                 Token::The(Mark::LeftParen | Mark::LeftBrace) => open = open.saturating_add(1),
                 Token::The(Mark::RightParen | Mark::RightBrace) => open = open.saturating_sub(1),
@@ -62,30 +64,26 @@ impl<'t> Names<'t> {
             }
             before = Some(*token);
         }
+        if names.is_refused {
+            return Err(AllocError);
+        }
         Ok(names)
     }
 
     /// Adds a declared name: at file scope a function or a global, else a local of the last function.
-    fn declare(
-        &mut self,
-        alloc: Global,
-        name: Identifier,
-        open: usize,
-        is_function: bool,
-    ) -> Result<(), AllocError> {
-        if open > 0 {
-            if let Some(function) = self.functions.last_mut() {
-                function.locals.push(name)?;
+    fn declare(&mut self, alloc: Global, name: Identifier, open: usize, is_function: bool) {
+        let is_refused = if open > 0 {
+            match self.functions.last_mut() {
+                Some(function) => function.locals.push(name).is_err(),
+                None => false,
             }
         } else if is_function {
-            self.functions.push(FunctionNames {
-                name,
-                locals: Vec::new(alloc),
-            })?;
+            let locals = Vec::new(alloc);
+            self.functions.push(FunctionNames { name, locals }).is_err()
         } else {
-            self.globals.push(name)?;
-        }
-        Ok(())
+            self.globals.push(name).is_err()
+        };
+        self.is_refused = self.is_refused || is_refused;
     }
 
     fn spelling(&self, name: Identifier) -> &'t str {

@@ -14,8 +14,9 @@ use crate::orders::{put_check, put_needed, put_settled};
 use crate::rtl_text::RtlView;
 use crate::wanted::{Asked, ShowFault, Stage, Wanted};
 use explain::put_left;
+use image::Image;
 use list_scheduler::{FilledOrder, ListOrder};
-use mblock::{Block, BlockNumber, Exit, Unit};
+use mblock::{Block, BlockNumber, Exit, Order, Unit};
 use mips_asm::{assemble, list};
 use mips_homes::{Frame, place};
 use rtl::{RBlock, Rtl};
@@ -44,8 +45,6 @@ pub(crate) struct View<'a> {
     pub(crate) wanted: Wanted,
     pub(crate) names: Names<'a>,
     pub(crate) ranges: Vec<Range>,
-    /// The functions' blocks of RTL.
-    rtl_ranges: Vec<Range>,
     frames: Vec<Frame>,
 }
 
@@ -67,13 +66,13 @@ impl<'a> View<'a> {
     /// Returns RTL of the function of this number among the ranges, the first of which is none of the program's.
     fn rtl(&self, number: usize) -> Option<(RtlView<'_>, &'a [RBlock])> {
         let number = number.checked_sub(1)?;
-        let blocks = self.shown.rtl.functions().get(number)?.blocks.as_slice();
-        let range = self.rtl_ranges.get(number).copied().unwrap_or_default();
+        let functions = self.shown.rtl.functions();
+        let blocks = functions.get(number)?.blocks.as_slice();
         let view = RtlView {
             names: &self.names,
             function: number,
             globals: self.shown.rtl.globals(),
-            numbers: range.of(self.shown.numbers),
+            numbers: rtl_blocks_of(functions, number).of(self.shown.numbers),
         };
         Some((view, blocks))
     }
@@ -147,10 +146,10 @@ impl<'a> View<'a> {
 
     /// Returns the graph of a function's blocks of RTL.
     fn rtl_nodes(&self, number: usize) -> Result<Vec<Node>, AllocError> {
-        let mut nodes = Vec::new(self.alloc);
         let Some((view, blocks)) = self.rtl(number) else {
-            return Ok(nodes);
+            return Ok(Vec::new(self.alloc));
         };
+        let mut nodes = Vec::new(self.alloc);
         for (k, block) in blocks.iter().enumerate() {
             let mut lines = Writer::new(self.alloc);
             view.lines(&mut lines, block, "", "\\l");
@@ -180,6 +179,22 @@ impl<'a> View<'a> {
         Ok(())
     }
 
+    /// Writes an image that has the blocks in these orders, as assembler source or as a listing.
+    fn put_made(
+        &self,
+        out: &mut Writer,
+        image: &Image,
+        orders: &[Order],
+    ) -> Result<(), AllocError> {
+        if self.wanted.stage == Some(Stage::Asm) {
+            let labels = self.labels(orders)?;
+            return put_source(self.alloc, out, image, labels.as_slice());
+        }
+        let listing = list(self.alloc, image)?;
+        self.put_listing(out, orders, listing.as_str());
+        Ok(())
+    }
+
     /// Writes what is made of the whole image, each block in its order. It is a fault if memory ran out for one of them: that one would keep
     /// its own order.
     fn put_image(&self, out: &mut Writer) -> Result<(), ShowFault> {
@@ -192,13 +207,7 @@ impl<'a> View<'a> {
             return Err(ShowFault::NoMemory);
         }
         let image = assemble(self.alloc, &scheduled)?;
-        let orders = scheduled.orders();
-        if self.wanted.stage == Some(Stage::Asm) {
-            put_source(self.alloc, out, &image, self.labels(orders)?.as_slice())?;
-        } else {
-            self.put_listing(out, orders, list(self.alloc, &image)?.as_str());
-        }
-        Ok(())
+        Ok(self.put_made(out, &image, scheduled.orders())?)
     }
 
     fn put_checked(&self, out: &mut Writer) -> Result<(), AllocError> {
@@ -257,17 +266,21 @@ impl<'a> View<'a> {
         Ok(())
     }
 
+    /// Writes what is asked for.
+    fn put(&self, out: &mut Writer) -> Result<(), ShowFault> {
+        match self.wanted.stage {
+            Some(Stage::Listing | Stage::Asm) if !self.wanted.dot => self.put_image(out),
+            Some(Stage::Check) if !self.wanted.dot => Ok(self.put_checked(out)?),
+            _ => Ok(self.put_all(out)?),
+        }
+    }
+
     /// Returns what is asked for. Lines that another program reads aren't cut.
     fn page(&self) -> Result<Page, ShowFault>
         ensures { IfOk result (All IsShown) }
     {
         let mut out = Writer::new(self.alloc);
-        match self.wanted.stage {
-            _ if self.wanted.dot => self.put_all(&mut out)?,
-            Some(Stage::Listing | Stage::Asm) => self.put_image(&mut out)?,
-            Some(Stage::Check) => self.put_checked(&mut out)?,
-            _ => self.put_all(&mut out)?,
-        }
+        self.put(&mut out)?;
         let page = out.end()?;
         if self.wanted.dot || self.wanted.stage == Some(Stage::Asm) {
             return Ok(page);
@@ -294,7 +307,6 @@ pub fn show(alloc: Global, shown: Shown<'_>, asked: &Asked<'_>) -> Result<Page, 
         wanted,
         names,
         ranges,
-        rtl_ranges: rtl_blocks_of(alloc, shown.rtl.functions())?,
         frames,
     };
     view.page()

@@ -42,13 +42,15 @@ fn sign(op: Op) -> &'static str {
 }
 
 impl<'a> RtlView<'a> {
-    fn put_register(&self, out: &mut Writer, register: Register) {
+    /// Writes words, and a register.
+    fn put_register(&self, out: &mut Writer, words: &str, register: Register) {
+        out.text(words);
         out.put(&self.names.register(self.function, register));
     }
 
     /// Writes what gets a value.
     fn put_target(&self, out: &mut Writer, register: Register) {
-        self.put_register(out, register);
+        self.put_register(out, "", register);
         out.text(" = ");
     }
 
@@ -60,8 +62,7 @@ impl<'a> RtlView<'a> {
     fn element(&self, out: &mut Writer, global: u32, index: Register) {
         out.text(self.names.global(global as usize));
         if self.is_array(global) {
-            out.text("[");
-            self.put_register(out, index);
+            self.put_register(out, "[", index);
             out.text("]");
         }
     }
@@ -74,14 +75,13 @@ impl<'a> RtlView<'a> {
                 out.put(&word.cast_signed());
             }
             RInst::Move(to, from) => {
-                self.put_target(out, to);
-                self.put_register(out, from);
+                self.put_register(out, "", to);
+                self.put_register(out, " = ", from);
             }
             RInst::Bin(op, to, left, right) => {
-                self.put_target(out, to);
-                self.put_register(out, left);
-                out.text(sign(op));
-                self.put_register(out, right);
+                self.put_register(out, "", to);
+                self.put_register(out, " = ", left);
+                self.put_register(out, sign(op), right);
             }
             RInst::Load(to, global, index) => {
                 self.put_target(out, to);
@@ -89,8 +89,7 @@ impl<'a> RtlView<'a> {
             }
             RInst::Store(global, index, from) => {
                 self.element(out, global, index);
-                out.text(" = ");
-                self.put_register(out, from);
+                self.put_register(out, " = ", from);
             }
         }
     }
@@ -108,8 +107,7 @@ impl<'a> RtlView<'a> {
         out.text("(");
         let mut before = "";
         for argument in arguments {
-            out.text(before);
-            self.put_register(out, *argument);
+            self.put_register(out, before, *argument);
             before = ", ";
         }
         out.text(")");
@@ -126,8 +124,7 @@ impl<'a> RtlView<'a> {
         match exit {
             RExit::Goto(block) => self.put_block(out, "goto ", *block),
             RExit::Branch(test, then, other) => {
-                out.text("if ");
-                self.put_register(out, *test);
+                self.put_register(out, "if ", *test);
                 self.put_block(out, " goto ", *then);
                 self.put_block(out, " else ", *other);
             }
@@ -139,13 +136,9 @@ impl<'a> RtlView<'a> {
                 self.put_block(out, ", then ", *next);
             }
             RExit::Return(None) => out.text("return"),
-            RExit::Return(Some(from)) => {
-                out.text("return ");
-                self.put_register(out, *from);
-            }
+            RExit::Return(Some(from)) => self.put_register(out, "return ", *from),
             RExit::Out(from, next) => {
-                out.text("out ");
-                self.put_register(out, *from);
+                self.put_register(out, "out ", *from);
                 self.put_block(out, ", then ", *next);
             }
         }
