@@ -23,7 +23,7 @@ fn put_warning(out: &mut Writer, source: &str, text: &[u8], warning: &Warning) {
 }
 
 /// Returns the lines of a text's warnings, in the order of their places, and how many more there are.
-fn page_of(
+fn warnings_page(
     alloc: Global,
     source: &str,
     text: &[u8],
@@ -52,7 +52,7 @@ pub(crate) fn warning_lines(
     program: &Program,
     typed: &Typed,
 ) -> Page {
-    match page_of(alloc, source, text, program, typed) {
+    match warnings_page(alloc, source, text, program, typed) {
         Ok(page) => page,
         Err(AllocError) => Page::empty(alloc),
     }
