@@ -110,7 +110,7 @@ pub(crate) fn interp_at<F: Files, W: Output, E: Complaints>(
         result }
 {
     let file = asked.source;
-    match asked.level {
+    let below = match asked.level {
         Level::C => {
             let command = InterpCommand {
                 source: file,
@@ -119,23 +119,10 @@ pub(crate) fn interp_at<F: Files, W: Output, E: Complaints>(
                 form: asked.form,
                 count: asked.count,
             };
-            answer_file(host, &command, file)
+            return answer_file(host, &command, file);
         }
-        Level::Rtl => answer_file(
-            host,
-            &BelowCommand {
-                asked,
-                below: Below::Rtl,
-            },
-            file,
-        ),
-        Level::Blocks => answer_file(
-            host,
-            &BelowCommand {
-                asked,
-                below: Below::Blocks,
-            },
-            file,
-        ),
-    }
+        Level::Rtl => Below::Rtl,
+        Level::Blocks => Below::Blocks,
+    };
+    answer_file(host, &BelowCommand { asked, below }, file)
 }
