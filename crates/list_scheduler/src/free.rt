@@ -2,7 +2,6 @@
 use crate::graph::Graph;
 use crate::node::Node;
 use crate::resources::Resources;
-use std::alloc::AllocError;
 
 // A rank's low bits are the number of an instruction: a block has fewer than 1,024 of them.
 const NUMBER_BITS: u32 = 10;
@@ -47,7 +46,7 @@ pub struct Free {
 
 impl Free {
     /// Returns those of a graph.
-    pub fn of(graph: &mut Graph) -> Result<Free, AllocError> {
+    pub fn of(graph: &mut Graph) -> Free {
         let free = Free {
             from: graph.lists.len(),
         };
@@ -55,11 +54,11 @@ impl Free {
             if let Some(node) = graph.nodes.get(k as usize) {
                 if node.waits_for == 0 {
                     let rank = rank_of(node, k);
-                    free.insert(graph, rank)?;
+                    free.insert(graph, rank);
                 }
             }
         }
-        Ok(free)
+        free
     }
 
     /// Returns the place of a rank, which is before this one.
@@ -70,20 +69,19 @@ impl Free {
     }
 
     /// Adds one at its place. Most come among the best few, so these make way for it one by one.
-    fn insert(&self, graph: &mut Graph, rank: u32) -> Result<(), AllocError> {
+    fn insert(&self, graph: &mut Graph, rank: u32) {
         let end = graph.lists.len();
         let near = end.saturating_sub(NEAR).max(self.from);
         match graph.lists.get(near) {
             Some(it) if *it > rank && near > self.from => {
                 let place = self.place_of(graph.lists.as_slice(), rank, near);
-                graph.lists.insert(place.min(end), rank)?;
+                graph.is_refused |= graph.lists.insert(place.min(end), rank).is_err();
             }
             _ => {
-                graph.lists.push(rank)?;
+                graph.add(rank);
                 sink(graph.lists.as_mut_slice(), rank, near, end);
             }
         }
-        Ok(())
     }
 
     /// Reports whether nothing delays the one at a place.
@@ -122,26 +120,24 @@ impl Free {
     }
 
     /// Adds those that waited for an instruction alone, which stands now.
-    pub fn release_all(&self, graph: &mut Graph, node: &Node) -> Result<(), AllocError> {
+    pub fn release_all(&self, graph: &mut Graph, node: &Node) {
         for i in node.waiting_range() {
             let Some(later) = graph.lists.get(i).copied() else {
                 break;
             };
-            self.release(graph, later)?;
+            self.release(graph, later);
         }
-        Ok(())
     }
 
     /// Counts that one waits for an instruction less, and adds it if it waits for no other.
-    fn release(&self, graph: &mut Graph, k: u32) -> Result<(), AllocError> {
+    fn release(&self, graph: &mut Graph, k: u32) {
         let Some(node) = graph.nodes.get_mut(k as usize) else {
-            return Ok(());
+            return;
         };
         node.waits_for = node.waits_for.saturating_sub(1);
         if node.waits_for == 0 {
             let rank = rank_of(node, k);
-            return self.insert(graph, rank);
+            self.insert(graph, rank);
         }
-        Ok(())
     }
 }

@@ -17,6 +17,8 @@ pub struct Graph {
     pub(crate) lists: Vec<u32>,
     // The height, so far, of the node that is linked.
     height: u32,
+    /// Whether memory was refused to the lists, which then lack a number.
+    pub(crate) is_refused: bool,
 }
 
 /// The next uses of a register, HI or LO: the first writer, and the readers before it. A reader has its number and which of its reads it is.
@@ -47,26 +49,29 @@ impl Graph {
         u32::try_from(self.lists.len()).unwrap_or(u32::MAX)
     }
 
+    /// Adds to the end of the lists.
+    pub(crate) fn add(&mut self, number: u32) {
+        self.is_refused = self.is_refused || self.lists.push(number).is_err();
+    }
+
     /// Puts the node that is linked before a later one, at least so many words.
-    pub(crate) fn put_before(&mut self, later: u32, words: u32) -> Result<(), AllocError> {
+    pub(crate) fn put_before(&mut self, later: u32, words: u32) {
         if let Some(node) = self.nodes.get_mut(later as usize) {
             self.height = self.height.max(node.follow(words));
         }
-        self.lists.push(later)?;
-        Ok(())
+        self.add(later);
     }
 
     /// Puts it before the readers of a list.
-    fn put_before_readers(&mut self, first: Link, words: u32) -> Result<(), AllocError> {
+    fn put_before_readers(&mut self, first: Link, words: u32) {
         let mut at = first;
         for _ in 0..self.nodes.len() {
             let Some(read) = at.number() else {
                 break;
             };
             at = self.reader_after(read);
-            self.put_before(read / 2, words)?;
+            self.put_before(read / 2, words);
         }
-        Ok(())
     }
 
     /// Returns the next reader of what a reader reads.
@@ -78,18 +83,16 @@ impl Graph {
     }
 
     /// Puts it before the next readers of a register, or before the next writer, which waits for those.
-    fn put_before_uses(&mut self, uses: Uses, words: u32) -> Result<(), AllocError> {
+    fn put_before_uses(&mut self, uses: Uses, words: u32) {
         if uses.readers.number().is_some() {
-            return self.put_before_readers(uses.readers, words);
-        }
-        match uses.writer.number() {
-            Some(writer) => self.put_before(writer, words),
-            None => Ok(()),
+            self.put_before_readers(uses.readers, words);
+        } else if let Some(writer) = uses.writer.number() {
+            self.put_before(writer, words);
         }
     }
 
     /// Puts it before those that use what it writes, and notes that it does.
-    fn link_writes(&mut self, k: u32, facts: &Facts, users: &mut Users) -> Result<(), AllocError> {
+    fn link_writes(&mut self, k: u32, facts: &Facts, users: &mut Users) {
         let words = facts.words_to_user();
         let mut left = facts.writes;
         for _ in 0..Resources::COUNT {
@@ -97,7 +100,7 @@ impl Graph {
                 break;
             };
             if let Some(uses) = users.get_mut(resource) {
-                self.put_before_uses(*uses, words)?;
+                self.put_before_uses(*uses, words);
                 *uses = Uses {
                     writer: Link::to(k),
                     readers: Link::NONE,
@@ -105,33 +108,21 @@ impl Graph {
             }
             left = others;
         }
-        Ok(())
     }
 
     /// Puts it before the writer of what it reads, and notes that it does; returns the next reader.
-    fn link_read(
-        &mut self,
-        reader: u32,
-        resource: usize,
-        words: u32,
-        users: &mut Users,
-    ) -> Result<Link, AllocError> {
+    fn link_read(&mut self, reader: u32, resource: usize, words: u32, users: &mut Users) -> Link {
         let Some(uses) = users.get_mut(resource) else {
-            return Ok(Link::NONE);
+            return Link::NONE;
         };
         if let Some(writer) = uses.writer.number() {
-            self.put_before(writer, words)?;
+            self.put_before(writer, words);
         }
-        Ok(replace(&mut uses.readers, Link::to(reader)))
+        replace(&mut uses.readers, Link::to(reader))
     }
 
     /// Does so for all that it reads; returns the next reader of each.
-    fn link_reads(
-        &mut self,
-        k: u32,
-        facts: &Facts,
-        users: &mut Users,
-    ) -> Result<[Link; 2], AllocError> {
+    fn link_reads(&mut self, k: u32, facts: &Facts, users: &mut Users) -> [Link; 2] {
         let words = if facts.moves() {
             PRODUCT_AFTER_MOVE
         } else {
@@ -139,14 +130,14 @@ impl Graph {
         };
         let reader = k.wrapping_mul(2);
         let Some((resource, others)) = facts.reads.difference(facts.writes).split() else {
-            return Ok([Link::NONE; 2]);
+            return [Link::NONE; 2];
         };
-        let first = self.link_read(reader, resource, words, users)?;
+        let first = self.link_read(reader, resource, words, users);
         let Some((resource, _)) = others.split() else {
-            return Ok([first, Link::NONE]);
+            return [first, Link::NONE];
         };
-        let second = self.link_read(reader.wrapping_add(1), resource, words, users)?;
-        Ok([first, second])
+        let second = self.link_read(reader.wrapping_add(1), resource, words, users);
+        [first, second]
     }
 
     /// Puts a node before all that have to stay after it, which are linked already.
@@ -156,17 +147,17 @@ impl Graph {
         touched: Resources,
         users: &mut Users,
         accesses: &mut Option<Accesses>,
-    ) -> Result<(), AllocError> {
+    ) {
         let Some(node) = self.nodes.get(k as usize) else {
-            return Ok(());
+            return;
         };
         let facts = node.facts;
         let begin = self.place();
         self.height = facts.words_to_exit(touched);
-        self.link_writes(k, &facts, users)?;
-        let readers = self.link_reads(k, &facts, users)?;
+        self.link_writes(k, &facts, users);
+        let readers = self.link_reads(k, &facts, users);
         if let Some(accesses) = accesses {
-            accesses.link(self, k, &facts)?;
+            accesses.link(self, k, &facts);
         }
         let end = self.place();
         if let Some(node) = self.nodes.get_mut(k as usize) {
@@ -174,10 +165,18 @@ impl Graph {
             node.waiting = (begin, end);
             node.readers = readers;
         }
-        Ok(())
     }
 
-    /// Returns the graph of a block's instructions.
+    /// Links all nodes, those of a block that ends with this exit.
+    fn link_all(&mut self, exit: &Exit, accesses: &mut Option<Accesses>) {
+        let touched = Resources::touched_at_exit(exit);
+        let mut users = [Uses::NONE; Resources::COUNT];
+        for k in 0..self.count() {
+            self.link(k, touched, &mut users, accesses);
+        }
+    }
+
+    /// Returns the graph of a block's instructions; one that `is_refused` lacks some of the order.
     pub fn of(alloc: Global, kept: Kept, exit: &Exit) -> Result<Graph, AllocError> {
         let Kept {
             mut nodes,
@@ -197,12 +196,9 @@ impl Graph {
             nodes,
             lists,
             height: NEXT,
+            is_refused: false,
         };
-        let touched = Resources::touched_at_exit(exit);
-        let mut users = [Uses::NONE; Resources::COUNT];
-        for k in 0..graph.count() {
-            graph.link(k, touched, &mut users, &mut accesses)?;
-        }
+        graph.link_all(exit, &mut accesses);
         Ok(graph)
     }
 }

@@ -61,7 +61,7 @@ fn list_words(graph: &mut Graph, free: &Free, list: &mut Vec<Plain>) -> Result<(
         };
         list.push(node.inst)?;
         delays.start(&node.facts);
-        free.release_all(graph, &node)?;
+        free.release_all(graph, &node);
         left = left.saturating_sub(1);
     }
     Ok(())
@@ -75,8 +75,11 @@ fn list_insts(alloc: Global, insts: &[Plain], exit: &Exit) -> Result<Vec<Plain>,
     }
     list.clear();
     let mut graph = Graph::of(alloc, keep_needed(alloc, insts)?, exit)?;
-    let free = Free::of(&mut graph)?;
+    let free = Free::of(&mut graph);
     list_words(&mut graph, &free, &mut list)?;
+    if graph.is_refused {
+        return Err(AllocError);
+    }
     finish(&mut list, exit)?;
     Ok(list)
 }

@@ -212,20 +212,14 @@ impl Accesses {
     }
 
     /// Puts an access before a later one, and all that stay after that one.
-    fn put_before(&mut self, graph: &mut Graph, k: usize, later: u32) -> Result<(), AllocError> {
+    fn put_before(&mut self, graph: &mut Graph, k: usize, later: u32) {
         self.sets.insert(after(k), later as usize);
         self.sets.insert_all(after(k), after(later as usize));
-        graph.put_before(later, NEXT)
+        graph.put_before(later, NEXT);
     }
 
     /// Puts an access before those that have to stay after it, whatever bytes they load or store.
-    fn link_sets(
-        &mut self,
-        graph: &mut Graph,
-        k: usize,
-        access: &Access,
-        is_fixed: bool,
-    ) -> Result<(), AllocError> {
+    fn link_sets(&mut self, graph: &mut Graph, k: usize, access: &Access, is_fixed: bool) {
         for w in (0..self.sets.width()).rev() {
             let all = self.word_behind(access, is_fixed, w);
             for _ in 0..64 {
@@ -235,20 +229,13 @@ impl Accesses {
                 let Ok(later) = u32::try_from(number(w, bit)) else {
                     break;
                 };
-                self.put_before(graph, k, later)?;
+                self.put_before(graph, k, later);
             }
         }
-        Ok(())
     }
 
     /// Puts an access before the stores of a list that store some of its bytes, up to one that stores all.
-    fn link_list(
-        &mut self,
-        graph: &mut Graph,
-        k: usize,
-        access: &Access,
-        first: Link,
-    ) -> Result<(), AllocError> {
+    fn link_list(&mut self, graph: &mut Graph, k: usize, access: &Access, first: Link) {
         let mut at = first;
         for _ in 0..graph.nodes.len() {
             let Some((later, store, next)) = store_at(graph.nodes.as_slice(), at) else {
@@ -257,7 +244,7 @@ impl Accesses {
             let is_fellow = self.sets.contains(fellows(access.base), later as usize);
             if is_fellow && access.overlaps(&store) {
                 if !self.sets.contains(after(k), later as usize) {
-                    self.put_before(graph, k, later)?;
+                    self.put_before(graph, k, later);
                 }
                 if store.covers(access) {
                     break;
@@ -265,7 +252,6 @@ impl Accesses {
             }
             at = next;
         }
-        Ok(())
     }
 
     /// Adds an access, the nearest one.
@@ -287,38 +273,30 @@ impl Accesses {
     }
 
     /// Puts an access before those that have to stay after it, and adds it.
-    fn link_access(
-        &mut self,
-        graph: &mut Graph,
-        k: u32,
-        access: &Access,
-        is_fixed: bool,
-    ) -> Result<(), AllocError> {
-        self.link_sets(graph, k as usize, access, is_fixed)?;
+    fn link_access(&mut self, graph: &mut Graph, k: u32, access: &Access, is_fixed: bool) {
+        self.link_sets(graph, k as usize, access, is_fixed);
         if !is_fixed {
             let (word, count) = self.buckets.words_of(access);
             for step in 0..count {
                 let first = self.buckets.first(bucket_of(word.wrapping_add(step)));
-                self.link_list(graph, k as usize, access, first)?;
+                self.link_list(graph, k as usize, access, first);
             }
         }
         self.add(graph, k, access, is_fixed);
-        Ok(())
     }
 
     /// Notes what an instruction writes, and puts its load or store before those that have to stay after it.
-    pub fn link(&mut self, graph: &mut Graph, k: u32, facts: &Facts) -> Result<(), AllocError> {
+    pub fn link(&mut self, graph: &mut Graph, k: u32, facts: &Facts) {
         self.forget_bases(facts.writes);
         if facts.memory == Memory::Apart {
-            return Ok(());
+            return;
         }
         let Some(node) = graph.nodes.get(k as usize) else {
-            return Ok(());
+            return;
         };
         let is_fixed = node.is_fixed;
-        match access_of(&node.inst) {
-            Some(access) => self.link_access(graph, k, &access, is_fixed),
-            None => Ok(()),
+        if let Some(access) = access_of(&node.inst) {
+            self.link_access(graph, k, &access, is_fixed);
         }
     }
 }
