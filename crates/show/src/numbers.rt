@@ -38,12 +38,14 @@ pub(crate) fn functions_of(alloc: Global, unit: &Unit) -> Result<Vec<Range>, All
     Ok(ranges)
 }
 
-/// Returns the blocks of RTL of the function of this number, where those of one function follow those of another.
-pub(crate) fn rtl_blocks_of(functions: &[RFunc], number: usize) -> Range {
-    let mut range = Range::default();
-    for function in functions.get(..=number).unwrap_or(&[]) {
-        let to = range.to.saturating_add(function.blocks.len());
-        range = Range { from: range.to, to };
+/// Returns each function's blocks of RTL, where those of one function follow those of another.
+pub(crate) fn rtl_blocks_of(alloc: Global, functions: &[RFunc]) -> Result<Vec<Range>, AllocError> {
+    let mut ranges = Vec::new(alloc);
+    let mut from = 0usize;
+    for function in functions {
+        let to = from.saturating_add(function.blocks.len());
+        ranges.push(Range { from, to })?;
+        from = to;
     }
-    range
+    Ok(ranges)
 }

@@ -45,6 +45,8 @@ pub(crate) struct View<'a> {
     pub(crate) wanted: Wanted,
     pub(crate) names: Names<'a>,
     pub(crate) ranges: Vec<Range>,
+    /// The functions' blocks of RTL.
+    rtl_ranges: Vec<Range>,
     frames: Vec<Frame>,
 }
 
@@ -66,13 +68,13 @@ impl<'a> View<'a> {
     /// Returns RTL of the function of this number among the ranges, the first of which is none of the program's.
     fn rtl(&self, number: usize) -> Option<(RtlView<'_>, &'a [RBlock])> {
         let number = number.checked_sub(1)?;
-        let functions = self.shown.rtl.functions();
-        let blocks = functions.get(number)?.blocks.as_slice();
+        let blocks = self.shown.rtl.functions().get(number)?.blocks.as_slice();
+        let range = self.rtl_ranges.get(number).copied().unwrap_or_default();
         let view = RtlView {
             names: &self.names,
             function: number,
             globals: self.shown.rtl.globals(),
-            numbers: rtl_blocks_of(functions, number).of(self.shown.numbers),
+            numbers: range.of(self.shown.numbers),
         };
         Some((view, blocks))
     }
@@ -307,6 +309,7 @@ pub fn show(alloc: Global, shown: Shown<'_>, asked: &Asked<'_>) -> Result<Page, 
         wanted,
         names,
         ranges,
+        rtl_ranges: rtl_blocks_of(alloc, shown.rtl.functions())?,
         frames,
     };
     view.page()
