@@ -4,6 +4,10 @@
 //! Contract: `answer_file`, `read_file`, `write_file`, `tell`, `tell_file`, `tell_placed`, `print_name`
 //! - A command over one file asks, prints and ends as its own definition says.
 //! - What is printed below an error steers no terminal.
+//!
+//! | Tested | In |
+//! |---|---|
+//! | `Disk`, `UntilRefused` | tests/program, `.ci/limits` |
 #![tactic(auto)]
 
 mod disk;
