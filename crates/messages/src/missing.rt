@@ -4,8 +4,8 @@ use crate::source::{Source, TYPES, after, before};
 use c_tokens::{Mark, Token};
 use text::Said;
 
-/// Reports whether a function's head stands at a token that can't stand. The token is the `(` of `type name (`, or the `void` that such a
-/// head begins with.
+/// Reports whether a function's head stands at a token that can't stand. The token is the `(` of `type name (`, before a type or `)`, or the
+/// `void` that such a head begins with.
 fn is_at_head(source: &Source<'_>, k: usize) -> bool {
     let name = if source.is(k, Mark::Void) {
         after(k, 1)
@@ -15,6 +15,7 @@ fn is_at_head(source: &Source<'_>, k: usize) -> bool {
     source.is_name(name)
         && source.is_one(before(name, 1), TYPES)
         && source.is(after(name, 1), Mark::LeftParen)
+        && (source.is_one(after(name, 2), TYPES) || source.is(after(name, 2), Mark::RightParen))
 }
 
 /// Names the brace that isn't closed where a function begins inside of another; false if that isn't so.

@@ -4,9 +4,10 @@ use crate::headers::{NO_CASTS, type_hint};
 use crate::missing::hint_missing;
 use crate::source::{Source, TYPES, before};
 use Fact::{
-    AfterAssign, AfterCall, AfterDeclared, AfterName, AfterNoOperand, AtFileScope, Before, Begins,
-    BeginsWithName, BeginsWithReturn, BeginsWithType, InFunction, InNoBrackets, InNoParentheses,
-    InParentheses, Is, IsConstant, IsFirst, IsName, IsOperator, IsPointerSign, IsSecond, IsType,
+    AfterAssign, AfterCall, AfterDeclared, AfterName, AfterNoOperand, AfterOperand, AfterUnknown,
+    AtFileScope, Before, BeginsWithName, BeginsWithReturn, BeginsWithType, InFunction,
+    InNoBrackets, InNoParentheses, InParentheses, Is, IsConstant, IsFirst, IsName, IsOperator,
+    IsPointerSign, IsSecond, IsType,
 };
 use c_tokens::{JumpWord, Mark, Token};
 use text::Said;
@@ -23,19 +24,21 @@ enum Fact {
     /// This stands so many tokens before it.
     Before(usize, Mark),
     AfterName,
+    /// What stands before it is declared nowhere.
+    AfterUnknown,
     /// A name stands before it that is declared there.
     AfterDeclared,
     /// Just before it a call ends.
     AfterCall,
-    /// No operand ends just before it.
+    /// An operand ends just before it, or none does.
+    AfterOperand,
     AfterNoOperand,
     /// An `=` stands before it in its declaration.
     AfterAssign,
     /// It is the first token of its statement or declaration, or the second one.
     IsFirst,
     IsSecond,
-    /// Its statement or declaration begins with this.
-    Begins(Mark),
+    /// What its statement or declaration begins with.
     BeginsWithName,
     BeginsWithType,
     BeginsWithReturn,
@@ -54,7 +57,7 @@ const OPERATORS: &[Mark] = &[
     Mark::Plus, Mark::Minus, Mark::Star, Mark::Slash, Mark::Percent,
 ];
 
-const POINTER_SIGNS: &[Mark] = &[Mark::Star, Mark::Ampersand, Mark::AndAnd];
+const POINTER_SIGNS: &[Mark] = &[Mark::Star, Mark::Ampersand];
 
 const CALL: &str = "a call stands alone or behind 'name =': int r; r = f(1); out(r);";
 
@@ -65,6 +68,10 @@ const NEEDS_BRACES: &str = "a declaration stands in a block: put braces around i
 const PARAMETER: &str = "each parameter has its type and its name: int f(int a, int b) { .. }";
 
 const ARRAY_VALUES: &str = "an array begins with 0: write a[0] = 1; a[1] = 2; in main";
+
+const ARRAY_LENGTH: &str = "an array's length is a number: int a[16];";
+
+const COMPARES: &str = "'==' compares: write '=' to assign";
 
 const VOID: &str = "a variable is int or unsigned";
 
@@ -93,17 +100,20 @@ const HINTS: &[(&[Fact], &str)] = &[
     (&[InFunction, IsType, Before(1, Mark::Else)], NEEDS_BRACES),
     (&[Is(Mark::Void)], VOID),
     (&[Is(Mark::Comma), BeginsWithType, InNoParentheses], "one declaration has one name: int i; int j;"),
-    (&[Is(Mark::Comma), InFunction], "there is no comma operator: write two statements"),
-    (&[Is(Mark::Comma)], PARAMETER),
+    (&[Is(Mark::Comma), InFunction, AfterOperand], "there is no comma operator: write two statements"),
+    (&[Is(Mark::Comma), AtFileScope], PARAMETER),
     (&[Is(Mark::LeftBracket), Before(1, Mark::RightBracket)], "an array has one index: write a[8 * i + j]"),
     (&[Is(Mark::LeftBracket), AfterDeclared, InFunction], "an array stands at file scope: put its declaration before the function"),
-    (&[Is(Mark::LeftBracket), AfterDeclared], "an array can't be passed: pass an index into one at file scope"),
-    (&[Before(1, Mark::LeftBracket), BeginsWithType, AtFileScope], "an array's length is a number: int a[16];"),
+    (&[Is(Mark::LeftBracket), AfterDeclared, InParentheses], "an array can't be passed: pass an index into one at file scope"),
+    (&[Before(1, Mark::LeftBracket), BeginsWithType, AtFileScope], ARRAY_LENGTH),
+    (&[IsOperator, Before(2, Mark::LeftBracket), BeginsWithType, AtFileScope], ARRAY_LENGTH),
+    (&[Is(Mark::EqualEqual), AfterName], COMPARES),
+    (&[Is(Mark::EqualEqual), Before(1, Mark::RightBracket)], COMPARES),
     (&[Is(Mark::LeftBrace), Before(1, Mark::Assign)], ARRAY_VALUES),
     (&[Is(Mark::Assign), Before(1, Mark::RightBracket), BeginsWithType], ARRAY_VALUES),
-    (&[Is(Mark::Assign), InFunction, InNoBrackets, InParentheses], "'=' assigns and is a statement of its own: write '==' to compare"),
-    (&[Is(Mark::Assign), InFunction, InNoBrackets], "an assignment is a statement of its own: b = c; a = b;"),
-    (&[AtFileScope, Begins(Mark::Void), AfterDeclared], VOID),
+    (&[Is(Mark::Assign), AfterOperand, InFunction, InNoBrackets, InParentheses], "'=' assigns and is a statement of its own: write '==' to compare"),
+    (&[Is(Mark::Assign), AfterOperand, InFunction, InNoBrackets], "an assignment is a statement of its own: b = c; a = b;"),
+    (&[AtFileScope, Is(Mark::Semicolon), Before(2, Mark::Void)], VOID),
     (&[AtFileScope, BeginsWithType, Before(2, Mark::Char)], CHAR),
     (&[AtFileScope, BeginsWithType, AfterAssign], "a variable at file scope begins with a number: compute its value in main"),
     (&[AtFileScope, Is(Mark::Semicolon), Before(1, Mark::RightParen)], "there are no prototypes: put the function before its callers"),
@@ -115,7 +125,7 @@ const HINTS: &[(&[Fact], &str)] = &[
     (&[AtFileScope, IsFirst], "a declaration begins with int, unsigned or void; statements stand in functions"),
     (&[IsFirst, IsConstant], STATEMENT),
     (&[IsFirst, Is(Mark::LeftParen)], STATEMENT),
-    (&[IsSecond, BeginsWithName, IsName], "the types are int and unsigned"),
+    (&[IsSecond, BeginsWithName, IsName, AfterUnknown], "the types are int and unsigned"),
     (&[IsSecond, BeginsWithName, Is(Mark::Semicolon)], STATEMENT),
     (&[IsSecond, BeginsWithName, IsOperator], STATEMENT),
 ];
@@ -179,13 +189,14 @@ impl<'s, 't> Found<'s, 't> {
             IsPointerSign => source.is_one(self.token, POINTER_SIGNS),
             Before(n, mark) => source.is(before(self.token, *n), *mark),
             AfterName => source.is_name(last),
+            AfterUnknown => source.declaration_of(source.spelling(last)).is_none(),
             AfterDeclared => source.is_declared(last),
             AfterCall => self.is_after_call(),
+            AfterOperand => self.is_after_operand(),
             AfterNoOperand => !self.is_after_operand(),
             AfterAssign => self.is_after_assign(),
             IsFirst => self.token == self.first,
             IsSecond => last == self.first,
-            Begins(mark) => source.is(self.first, *mark),
             BeginsWithName => source.is_name(self.first),
             BeginsWithType => source.is_one(self.first, TYPES),
             BeginsWithReturn => {

@@ -12,7 +12,7 @@ use text::Said;
 /// Names of C's library, and of its headers, with what to write.
 #[rattlefmt::skip]
 const LIBRARY: &[Told] = &[
-    (&[b"printf", b"puts", b"putchar"], "out(e); prints a word in decimal"),
+    (&[b"printf", b"print", b"puts", b"putchar"], "out(e); prints a word in decimal"),
     (&[b"exit", b"abort"], "return from main ends the program"),
     (&[b"assert"], "write if (!(e)) out(e);"),
     (&[b"NULL"], "there are no pointers: write an index, as 0"),
@@ -50,7 +50,7 @@ fn say_undeclared(
     } else if let Some(told) = told_of(LIBRARY, name).or(written_for(name)) {
         said.hint(told);
     } else if let Some(near) = nearest(alloc, source, names, k)? {
-        said.hint.put(&format_args!("did you mean '{near}'"));
+        said.hint.put(&format_args!("did you mean '{near}'?"));
     }
     Ok(())
 }
