@@ -33,7 +33,7 @@ const ALONE: &str = "nothing stands behind it";
 /// Operands as they are shown, and what they may be.
 type Form = (&'static str, &'static str);
 
-/// What assemblers have and check texts haven't, with what to write.
+/// What can't be an instruction here, with what to write: words of assemblers, and a line that comes before its exit.
 const OTHERS: &[(&[u8], &str)] = &[
     (b"add", "write addu, which doesn't trap"),
     (b"addi", "write addiu, which doesn't trap"),
@@ -48,7 +48,10 @@ const OTHERS: &[(&[u8], &str)] = &[
     (b"jr", "write return"),
     (b"beqz", "write beq $s,$0,T,E"),
     (b"bnez", "write bne $s,$0,T,E"),
+    (b"mul", "write mult $rs,$rt and mflo $rd"),
     (b"syscall", "write out N or halt"),
+    (b"order", "a block ends with an exit, as return or goto T"),
+    (b"slot", "an order ends with an exit, as return or goto T"),
 ];
 
 /// What has to stand next in a check text.
@@ -115,7 +118,7 @@ fn exit(word: &[u8]) -> Option<Form> {
     Some((operands, BLOCKS))
 }
 
-/// Returns what to write in place of a mnemonic that assemblers have and check texts haven't.
+/// Returns what to write in place of a word that is no instruction.
 fn other(word: &[u8]) -> Option<&'static str> {
     let found = OTHERS.iter().find(|row| row.0 == word)?;
     Some(found.1)
