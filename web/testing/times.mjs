@@ -1,5 +1,9 @@
 // How long the page's module and the program take for the examples and a text of some 1,000 lines, in milliseconds, the least of
-// nine times: node web/testing/times.mjs PAGE MCC. The program's times have the start of its process.
+// nine times. The program's times have the start of its process.
+//
+//     node web/testing/times.mjs [PAGE] [MCC]    web/mcc.html and crates/mcc/out/mcc, if they are left out
+//
+// Before node 24 it takes --experimental-wasm-memory64 behind `node`.
 import { spawnSync } from 'node:child_process';
 import fs from 'node:fs';
 import os from 'node:os';
@@ -8,8 +12,9 @@ import zlib from 'node:zlib';
 import { Mcc } from '../mcc.mjs';
 import { bytesOf } from './module.mjs';
 
-const [, , page, program] = process.argv;
-const DATA = new URL('../../examples/programs/', import.meta.url).pathname;
+const top = name => new URL(`../../${name}`, import.meta.url).pathname;
+const [, , page = top('web/mcc.html'), program = top('crates/mcc/out/mcc')] = process.argv;
+const DATA = top('examples/programs/');
 const room = fs.mkdtempSync(path.join(os.tmpdir(), 'mcc-times-'));
 const [source, image] = ['program.c', 'program.image'].map(name => path.join(room, name));
 const STEPS = 1_000_000;
