@@ -14,6 +14,11 @@ import { bytesOf } from './module.mjs';
 
 const top = name => new URL(`../../${name}`, import.meta.url).pathname;
 const [, , page = top('web/mcc.html'), program = top('crates/mcc/out/mcc')] = process.argv;
+const missing = [page, program].find(name => !fs.existsSync(name));
+if (missing) {
+  console.error(`times: ${missing} isn't there`);
+  process.exit(1);
+}
 const DATA = top('examples/programs/');
 const room = fs.mkdtempSync(path.join(os.tmpdir(), 'mcc-times-'));
 const [source, image] = ['program.c', 'program.image'].map(name => path.join(room, name));
