@@ -61,20 +61,16 @@ impl Free {
         free
     }
 
-    /// Returns the place of a rank, which is before this one.
-    fn place_of(&self, lists: &[u32], rank: u32, before: usize) -> usize {
-        let ranks = lists.get(self.from..before).unwrap_or_default();
-        self.from
-            .saturating_add(ranks.partition_point(|it| *it < rank))
-    }
-
     /// Adds one at its place. Most come among the best few, so these make way for it one by one.
     fn insert(&self, graph: &mut Graph, rank: u32) {
         let end = graph.lists.len();
         let near = end.saturating_sub(NEAR).max(self.from);
         match graph.lists.get(near) {
             Some(it) if *it > rank && near > self.from => {
-                let place = self.place_of(graph.lists.as_slice(), rank, near);
+                let ranks = graph.lists.get(self.from..near).unwrap_or_default();
+                let place = self
+                    .from
+                    .saturating_add(ranks.partition_point(|it| *it < rank));
                 graph.is_refused |= graph.lists.insert(place.min(end), rank).is_err();
             }
             _ => {
@@ -84,24 +80,12 @@ impl Free {
         }
     }
 
-    /// Reports whether nothing delays the one at a place.
-    fn may_come(graph: &Graph, place: usize, delayed: Resources) -> bool {
-        if delayed.is_empty() {
-            return true;
-        }
-        let Some(rank) = graph.lists.get(place) else {
-            return false;
-        };
-        match graph.nodes.get(number_of(*rank) as usize) {
-            Some(node) => !node.facts.delayed().meets(delayed),
-            None => false,
-        }
-    }
-
     /// Returns the place of the best one that nothing delays.
     fn best(&self, graph: &Graph, delayed: Resources) -> Option<usize> {
         for place in (self.from..graph.lists.len()).rev() {
-            if Free::may_come(graph, place, delayed) {
+            let rank = *graph.lists.get(place)?;
+            let node = graph.nodes.get(number_of(rank) as usize)?;
+            if !node.facts.delayed().meets(delayed) {
                 return Some(place);
             }
         }
@@ -121,23 +105,18 @@ impl Free {
 
     /// Adds those that waited for an instruction alone, which stands now.
     pub fn release_all(&self, graph: &mut Graph, node: &Node) {
-        for i in node.waiting_range() {
-            let Some(later) = graph.lists.get(i).copied() else {
+        for i in node.waiting.0..node.waiting.1 {
+            let Some(k) = graph.lists.get(i as usize).copied() else {
                 break;
             };
-            self.release(graph, later);
-        }
-    }
-
-    /// Counts that one waits for an instruction less, and adds it if it waits for no other.
-    fn release(&self, graph: &mut Graph, k: u32) {
-        let Some(node) = graph.nodes.get_mut(k as usize) else {
-            return;
-        };
-        node.waits_for = node.waits_for.saturating_sub(1);
-        if node.waits_for == 0 {
-            let rank = rank_of(node, k);
-            self.insert(graph, rank);
+            let Some(later) = graph.nodes.get_mut(k as usize) else {
+                break;
+            };
+            later.waits_for = later.waits_for.saturating_sub(1);
+            if later.waits_for == 0 {
+                let rank = rank_of(later, k);
+                self.insert(graph, rank);
+            }
         }
     }
 }

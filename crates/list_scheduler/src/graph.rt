@@ -1,7 +1,7 @@
 //! What has to stay before what in a block. The graph is made from the last instruction on, so a node's height is known when it is linked.
 use crate::link::Link;
 use crate::memory::{Accesses, mark_fixed};
-use crate::node::{Facts, Kept, NEXT, Node, PRODUCT_AFTER_MOVE};
+use crate::node::{AFTER_LOAD, Facts, Kept, NEXT, Node, PRODUCT_AFTER_MOVE};
 use crate::resources::Resources;
 use mblock::Exit;
 use std::alloc::{AllocError, Global};
@@ -57,43 +57,35 @@ impl Graph {
     /// Puts the node that is linked before a later one, at least so many words.
     pub(crate) fn put_before(&mut self, later: u32, words: u32) {
         if let Some(node) = self.nodes.get_mut(later as usize) {
-            self.height = self.height.max(node.follow(words));
+            node.waits_for = node.waits_for.wrapping_add(1);
+            self.height = self.height.max(node.height.wrapping_add(words));
         }
         self.add(later);
     }
 
-    /// Puts it before the readers of a list.
-    fn put_before_readers(&mut self, first: Link, words: u32) {
-        let mut at = first;
+    /// Puts it before the next readers of a register, or before the next writer, which waits for those.
+    fn put_before_uses(&mut self, uses: Uses, words: u32) {
+        let mut at = uses.readers;
+        if at.number().is_none()
+            && let Some(writer) = uses.writer.number()
+        {
+            self.put_before(writer, words);
+        }
         for _ in 0..self.nodes.len() {
             let Some(read) = at.number() else {
                 break;
             };
-            at = self.reader_after(read);
+            at = match self.nodes.get((read / 2) as usize) {
+                Some(node) => node.readers[(read % 2) as usize],
+                None => Link::NONE,
+            };
             self.put_before(read / 2, words);
-        }
-    }
-
-    /// Returns the next reader of what a reader reads.
-    fn reader_after(&self, read: u32) -> Link {
-        match self.nodes.get((read / 2) as usize) {
-            Some(node) => node.readers[(read % 2) as usize],
-            None => Link::NONE,
-        }
-    }
-
-    /// Puts it before the next readers of a register, or before the next writer, which waits for those.
-    fn put_before_uses(&mut self, uses: Uses, words: u32) {
-        if uses.readers.number().is_some() {
-            self.put_before_readers(uses.readers, words);
-        } else if let Some(writer) = uses.writer.number() {
-            self.put_before(writer, words);
         }
     }
 
     /// Puts it before those that use what it writes, and notes that it does.
     fn link_writes(&mut self, k: u32, facts: &Facts, users: &mut Users) {
-        let words = facts.words_to_user();
+        let words = if facts.loads() { AFTER_LOAD } else { NEXT };
         let mut left = facts.writes;
         for _ in 0..Resources::COUNT {
             let Some((resource, others)) = left.split() else {
@@ -167,15 +159,6 @@ impl Graph {
         }
     }
 
-    /// Links all nodes, those of a block that ends with this exit.
-    fn link_all(&mut self, exit: &Exit, accesses: &mut Option<Accesses>) {
-        let touched = Resources::touched_at_exit(exit);
-        let mut users = [Uses::NONE; Resources::COUNT];
-        for k in 0..self.count() {
-            self.link(k, touched, &mut users, accesses);
-        }
-    }
-
     /// Returns the graph of a block's instructions; one that `is_refused` lacks some of the order.
     pub fn of(alloc: Global, kept: Kept, exit: &Exit) -> Result<Graph, AllocError> {
         let Kept {
@@ -198,7 +181,11 @@ impl Graph {
             height: NEXT,
             is_refused: false,
         };
-        graph.link_all(exit, &mut accesses);
+        let touched = Resources::touched_at_exit(exit);
+        let mut users = [Uses::NONE; Resources::COUNT];
+        for k in 0..graph.count() {
+            graph.link(k, touched, &mut users, &mut accesses);
+        }
         Ok(graph)
     }
 }

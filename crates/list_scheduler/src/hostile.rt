@@ -81,7 +81,13 @@ fn change_insts(alloc: Global, kind: Hostile, insts: &[Plain]) -> Result<Vec<Pla
                 offset: 0,
             },
         )?,
-        Hostile::Rename => rename_first(&mut all),
+        Hostile::Rename => {
+            for inst in all.iter_mut() {
+                if rename(inst) {
+                    break;
+                }
+            }
+        }
         Hostile::Swap | Hostile::Exit | Hostile::Slot | Hostile::Silent => {}
     }
     Ok(all)
@@ -96,15 +102,6 @@ fn change_exit(kind: Hostile, mut exit: Exit) -> Exit {
         }
     }
     exit
-}
-
-/// Puts the next register in place of the first one from 1 to 30 that is written.
-fn rename_first(insts: &mut [Plain]) {
-    for inst in insts.iter_mut() {
-        if rename(inst) {
-            return;
-        }
-    }
 }
 
 /// Puts the next register in place of one from 1 to 30 that an instruction writes; false if it writes none.

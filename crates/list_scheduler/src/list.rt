@@ -31,17 +31,6 @@ impl Reorder for ListOrder {
     }
 }
 
-/// Adds a Nop after a load whose register the exit's first word touches.
-fn finish(list: &mut Vec<Plain>, exit: &Exit) -> Result<(), AllocError> {
-    let touched = Resources::touched_at_exit(exit);
-    if let Some(inst) = list.last()
-        && Facts::of(inst).words_to_exit(touched) > NEXT
-    {
-        list.push(Plain::nop())?;
-    }
-    Ok(())
-}
-
 /// Lists the instructions of the graph word by word, one more than an order may have at most.
 fn list_words(graph: &mut Graph, free: &Free, list: &mut Vec<Plain>) -> Result<(), AllocError> {
     let mut left = graph.nodes.len();
@@ -80,6 +69,11 @@ fn list_insts(alloc: Global, insts: &[Plain], exit: &Exit) -> Result<Vec<Plain>,
     if graph.is_refused {
         return Err(AllocError);
     }
-    finish(&mut list, exit)?;
+    let touched = Resources::touched_at_exit(exit);
+    if let Some(inst) = list.last()
+        && Facts::of(inst).words_to_exit(touched) > NEXT
+    {
+        list.push(Plain::nop())?;
+    }
     Ok(list)
 }

@@ -71,32 +71,22 @@ fn store_at(nodes: &[Node], at: Link) -> Option<(u32, Access, Link)> {
     Some((k, access, node.bucket))
 }
 
-/// Reports whether a load meets a store of a list that came since its base was written.
-fn meets_store_of(nodes: &[Node], first: Link, load: &Access, written: Link) -> bool {
-    let mut at = first;
-    for _ in 0..nodes.len() {
-        let Some((k, store, next)) = store_at(nodes, at) else {
-            break;
-        };
-        match written.number() {
-            Some(writer) if writer <= k => return false,
-            _ => {}
-        }
-        if load.meets(&store) {
-            return true;
-        }
-        at = next;
-    }
-    false
-}
-
 /// Reports whether a load loads what a store may have stored that came since its base was written.
 fn meets_store(nodes: &[Node], buckets: &Buckets, load: &Access, written: Link) -> bool {
     let (word, count) = buckets.words_of(load);
     for step in 0..count {
-        let first = buckets.first(bucket_of(word.wrapping_add(step)));
-        if meets_store_of(nodes, first, load, written) {
-            return true;
+        let mut at = buckets.first(bucket_of(word.wrapping_add(step)));
+        for _ in 0..nodes.len() {
+            let Some((k, store, next)) = store_at(nodes, at) else {
+                break;
+            };
+            if matches!(written.number(), Some(writer) if writer <= k) {
+                break;
+            }
+            if load.meets(&store) {
+                return true;
+            }
+            at = next;
         }
     }
     false
@@ -188,15 +178,6 @@ impl Accesses {
         })
     }
 
-    /// Notes that these registers are written: nothing is known of accesses over them any more.
-    fn forget_bases(&mut self, written: Resources) {
-        let Some((base, _)) = written.intersection(self.bases).split() else {
-            return;
-        };
-        self.sets.clear(FELLOWS.wrapping_add(base));
-        self.bases = self.bases.difference(written);
-    }
-
     /// Returns a word of the set of those that have to stay after an access, whatever bytes they load or store.
     fn word_behind(&self, access: &Access, is_fixed: bool, w: usize) -> u64 {
         let stores = self.sets.word(STORES, w);
@@ -272,22 +253,12 @@ impl Accesses {
         }
     }
 
-    /// Puts an access before those that have to stay after it, and adds it.
-    fn link_access(&mut self, graph: &mut Graph, k: u32, access: &Access, is_fixed: bool) {
-        self.link_sets(graph, k as usize, access, is_fixed);
-        if !is_fixed {
-            let (word, count) = self.buckets.words_of(access);
-            for step in 0..count {
-                let first = self.buckets.first(bucket_of(word.wrapping_add(step)));
-                self.link_list(graph, k as usize, access, first);
-            }
-        }
-        self.add(graph, k, access, is_fixed);
-    }
-
     /// Notes what an instruction writes, and puts its load or store before those that have to stay after it.
     pub fn link(&mut self, graph: &mut Graph, k: u32, facts: &Facts) {
-        self.forget_bases(facts.writes);
+        if let Some((base, _)) = facts.writes.intersection(self.bases).split() {
+            self.sets.clear(FELLOWS.wrapping_add(base));
+            self.bases = self.bases.difference(facts.writes);
+        }
         if facts.memory == Memory::Apart {
             return;
         }
@@ -295,8 +266,17 @@ impl Accesses {
             return;
         };
         let is_fixed = node.is_fixed;
-        if let Some(access) = access_of(&node.inst) {
-            self.link_access(graph, k, &access, is_fixed);
+        let Some(access) = access_of(&node.inst) else {
+            return;
+        };
+        self.link_sets(graph, k as usize, &access, is_fixed);
+        if !is_fixed {
+            let (word, count) = self.buckets.words_of(&access);
+            for step in 0..count {
+                let first = self.buckets.first(bucket_of(word.wrapping_add(step)));
+                self.link_list(graph, k as usize, &access, first);
+            }
         }
+        self.add(graph, k, &access, is_fixed);
     }
 }

@@ -3,7 +3,6 @@ use crate::link::Link;
 use crate::resources::Resources;
 use mips_isa::{HiLo, Plain};
 use std::alloc::{AllocError, Global};
-use std::ops::Range;
 
 /// What an instruction does with memory.
 #[derive(Clone, Copy, PartialEq, Eq)]
@@ -24,31 +23,22 @@ pub struct Facts {
     pub memory: Memory,
 }
 
-/// Returns what an instruction reads, what it writes, and what it does with memory.
-#[rattlefmt::skip]
-fn uses(inst: &Plain) -> (Resources, Resources, Memory) {
-    match *inst {
-        Plain::Shift { rd, rt, .. } => (Resources::of(rt), Resources::of(rd), Memory::Apart),
-        Plain::ShiftBy { rd, rt, rs, .. } | Plain::Alu { rd, rs, rt, .. } => (Resources::of_both(rs, rt), Resources::of(rd), Memory::Apart),
-        Plain::Imm { rt, rs, .. } | Plain::Logic { rt, rs, .. } => (Resources::of(rs), Resources::of(rt), Memory::Apart),
-        Plain::LoadUpper { rt, .. } => (Resources::NONE, Resources::of(rt), Memory::Apart),
-        Plain::MoveFrom { place: HiLo::Hi, rd } => (Resources::HIGH, Resources::of(rd), Memory::Apart),
-        Plain::MoveFrom { place: HiLo::Lo, rd } => (Resources::LOW, Resources::of(rd), Memory::Apart),
-        Plain::Multiply { rs, rt, .. } | Plain::Divide { rs, rt, .. } => (Resources::of_both(rs, rt), Resources::PRODUCT, Memory::Apart),
-        Plain::Load { rt, base, .. } => (Resources::of(base), Resources::of(rt.reg()), Memory::Loads),
-        Plain::Store { rt, base, .. } => (Resources::of_both(rt, base), Resources::NONE, Memory::Stores),
-    }
-}
-
 impl Facts {
     /// Returns the facts of an instruction.
+    #[rattlefmt::skip]
     pub fn of(inst: &Plain) -> Facts {
-        let (reads, writes, memory) = uses(inst);
-        Facts {
-            reads,
-            writes,
-            memory,
-        }
+        let (reads, writes, memory) = match *inst {
+            Plain::Shift { rd, rt, .. } => (Resources::of(rt), Resources::of(rd), Memory::Apart),
+            Plain::ShiftBy { rd, rt, rs, .. } | Plain::Alu { rd, rs, rt, .. } => (Resources::of_both(rs, rt), Resources::of(rd), Memory::Apart),
+            Plain::Imm { rt, rs, .. } | Plain::Logic { rt, rs, .. } => (Resources::of(rs), Resources::of(rt), Memory::Apart),
+            Plain::LoadUpper { rt, .. } => (Resources::NONE, Resources::of(rt), Memory::Apart),
+            Plain::MoveFrom { place: HiLo::Hi, rd } => (Resources::HIGH, Resources::of(rd), Memory::Apart),
+            Plain::MoveFrom { place: HiLo::Lo, rd } => (Resources::LOW, Resources::of(rd), Memory::Apart),
+            Plain::Multiply { rs, rt, .. } | Plain::Divide { rs, rt, .. } => (Resources::of_both(rs, rt), Resources::PRODUCT, Memory::Apart),
+            Plain::Load { rt, base, .. } => (Resources::of(base), Resources::of(rt.reg()), Memory::Loads),
+            Plain::Store { rt, base, .. } => (Resources::of_both(rt, base), Resources::NONE, Memory::Stores),
+        };
+        Facts { reads, writes, memory }
     }
 
     /// Returns what it reads or writes.
@@ -85,11 +75,6 @@ impl Facts {
     /// makes a product of.
     pub fn delayed(&self) -> Resources {
         self.reads.difference(Resources::PRODUCT).union(self.writes)
-    }
-
-    /// Returns the words from it to an instruction that touches what it writes.
-    pub fn words_to_user(&self) -> u32 {
-        if self.loads() { AFTER_LOAD } else { NEXT }
     }
 
     /// Returns the words from it to the end of the block, where none stands after it. A load whose register the exit's first word touches
@@ -145,17 +130,6 @@ impl Node {
             readers: [Link::NONE; 2],
             bucket: Link::NONE,
         }
-    }
-
-    /// Returns the places of those that wait for it.
-    pub fn waiting_range(&self) -> Range<usize> {
-        self.waiting.0 as usize..self.waiting.1 as usize
-    }
-
-    /// Counts one more before it; returns the height of one that is so many words before it.
-    pub fn follow(&mut self, words: u32) -> u32 {
-        self.waits_for = self.waits_for.wrapping_add(1);
-        self.height.wrapping_add(words)
     }
 }
 

@@ -1,7 +1,7 @@
 //! One slot is filled.
 ghost use Rattle.std.specs.Prelude.{◌<◌, IfSome, length};
 
-use crate::access::{Access, access_of};
+use crate::access::access_of;
 use crate::node::Facts;
 use crate::resources::Resources;
 use mblock::{Block, Order, plain};
@@ -21,18 +21,6 @@ struct Passed<'a> {
 }
 
 impl<'a> Passed<'a> {
-    fn exit_of(order: &'a Order) -> Passed<'a> {
-        let exit = order.exit();
-        let insts = order.insts();
-        Passed {
-            reads: Resources::read_by_exit(&exit),
-            writes: Resources::written_by_exit(&exit),
-            insts,
-            looked: insts.len(),
-            has_fixed_load: false,
-        }
-    }
-
     /// Reports whether instruction k may run after all of these. A load or a move of HI or LO may not stand in a slot, and a Nop needn't.
     fn lets(&mut self, k: usize, inst: &Plain, facts: &Facts) -> bool {
         let may_fill = !facts.loads() && !facts.moves() && !inst.is_nop();
@@ -67,12 +55,6 @@ impl<'a> Passed<'a> {
         }
         self.looked = k;
     }
-
-    /// Takes one more instruction.
-    fn take(&mut self, facts: &Facts) {
-        self.reads = self.reads.union(facts.reads);
-        self.writes = self.writes.union(facts.writes);
-    }
 }
 
 /// Reports whether instruction k loads what a store over the same register may have stored before.
@@ -80,14 +62,12 @@ fn is_fixed_load(insts: &[Plain], k: usize) -> bool {
     let Some((before, [inst, ..])) = insts.split_at_checked(k) else {
         return false;
     };
-    match access_of(inst) {
-        Some(load) if !load.stores => meets_store(&load, before),
-        _ => false,
+    let Some(load) = access_of(inst) else {
+        return false;
+    };
+    if load.stores {
+        return false;
     }
-}
-
-/// Reports whether a load loads what a store over the same register may have stored.
-fn meets_store(load: &Access, before: &[Plain]) -> bool {
     for inst in before {
         if let Some(store) = access_of(inst)
             && store.stores
@@ -125,10 +105,16 @@ fn may_leave(order: &Order, k: usize) -> bool {
     !(facts.moves() && is_product(after.get(1))) && !(moves_earlier && is_product(after.first()))
 }
 
-/// Returns the order with its instruction k in the slot.
-fn move_to_slot(alloc: Global, block: &Block, order: Order, k: usize) -> Result<Order, AllocError>
-    requires { k < length order.insts }
-{
+/// Returns the order with an instruction in its slot in place of a Nop. It is the last one that nothing after it depends on, and without
+/// which in its place no delay rule is broken. The order as it was, where it has no such instruction. An Err means out of memory.
+pub fn fill(alloc: Global, block: &Block, order: Order) -> Result<Order, AllocError> {
+    let is_free = matches!(order.slot(), Some(inst) if inst.is_nop());
+    if !is_free {
+        return Ok(order);
+    }
+    let Some(k) = last_movable(&order) else {
+        return Ok(order);
+    };
     let exit = order.exit();
     let mut insts = order.into_insts();
     let slot = insts.remove(k);
@@ -138,32 +124,26 @@ fn move_to_slot(alloc: Global, block: &Block, order: Order, k: usize) -> Result<
     }
 }
 
-/// Returns the order with an instruction in its slot in place of a Nop. It is the last one that nothing after it depends on, and without
-/// which in its place no delay rule is broken. The order as it was, where it has no such instruction. An Err means out of memory.
-pub fn fill(alloc: Global, block: &Block, order: Order) -> Result<Order, AllocError> {
-    let is_free = matches!(order.slot(), Some(inst) if inst.is_nop());
-    if !is_free {
-        return Ok(order);
-    }
-    match last_movable(&order) {
-        Some(k) => move_to_slot(alloc, block, order, k),
-        None => Ok(order),
-    }
-}
-
 /// Returns the number of the instruction that may stand in the slot.
 fn last_movable(order: &Order) -> Option<usize>
     ensures { IfSome result (λ k. k < length order.now.insts) }
 {
-    let insts = order.insts();
-    let mut passed = Passed::exit_of(order);
+    let (insts, exit) = (order.insts(), order.exit());
+    let mut passed = Passed {
+        reads: Resources::read_by_exit(&exit),
+        writes: Resources::written_by_exit(&exit),
+        insts,
+        looked: insts.len(),
+        has_fixed_load: false,
+    };
     for k in (0..insts.len()).rev() {
         let inst = &insts[k];
         let facts = Facts::of(inst);
         if passed.lets(k, inst, &facts) && may_leave(order, k) {
             return Some(k);
         }
-        passed.take(&facts);
+        passed.reads = passed.reads.union(facts.reads);
+        passed.writes = passed.writes.union(facts.writes);
     }
     None
 }

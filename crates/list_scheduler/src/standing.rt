@@ -45,37 +45,12 @@ struct Standing {
 }
 
 impl Standing {
-    /// Returns the instructions behind the last one: none.
-    fn before_exit(exit: &Exit) -> Standing {
-        let at_exit = Resources::touched_at_exit(exit);
-        Standing {
-            at_exit,
-            next: at_exit,
-            top: Level::EMPTY,
-            second: Level::EMPTY,
-            third: Level::EMPTY,
-            is_lowest: true,
-            has_load: false,
-            has_store: false,
-            has_product: false,
-        }
-    }
-
     /// Reports whether one that stands before them delays none of them, nor the exit.
     fn is_prompt(&self, facts: &Facts) -> bool {
         if facts.loads() {
             return !facts.writes.meets(self.next.union(self.at_exit));
         }
         !(facts.moves() && self.has_product)
-    }
-
-    /// Reports whether it needn't stay before one of them for the sake of memory.
-    fn may_pass(&self, memory: Memory) -> bool {
-        match memory {
-            Memory::Apart => true,
-            Memory::Loads => !self.has_store,
-            Memory::Stores => !self.has_store && !self.has_load,
-        }
     }
 
     /// Returns how many words higher than the first of them one is that stands before them; None for one that is lower.
@@ -101,37 +76,31 @@ impl Standing {
         }
     }
 
-    /// Makes room for the levels of so many words more.
-    fn rise(&mut self, words: u32) {
-        if words == 0 {
-            return;
+    /// Adds the one that stands before them, if it is listed first of all; reports whether it is.
+    fn takes(&mut self, facts: &Facts) -> bool {
+        let may_pass = match facts.memory {
+            Memory::Apart => true,
+            Memory::Loads => !self.has_store,
+            Memory::Stores => !self.has_store && !self.has_load,
+        };
+        if !may_pass || !self.is_prompt(facts) {
+            return false;
         }
-        self.third = if words == 1 { self.second } else { self.top };
-        self.second = if words == 1 { self.top } else { Level::EMPTY };
-        self.top = Level::EMPTY;
-        self.is_lowest = false;
-    }
-
-    /// Adds the one that stands before them, at the first one's height.
-    fn add(&mut self, facts: &Facts) {
+        let Some(words) = self.rise_to(facts) else {
+            return false;
+        };
+        if words > 0 {
+            self.third = if words == 1 { self.second } else { self.top };
+            self.second = if words == 1 { self.top } else { Level::EMPTY };
+            self.top = Level::EMPTY;
+            self.is_lowest = false;
+        }
         self.next = facts.touched();
         self.top.touched = self.top.touched.union(self.next);
         self.top.written = self.top.written.union(facts.writes);
         self.has_product |= facts.writes.meets(Resources::PRODUCT);
         self.has_load |= facts.loads();
         self.has_store |= facts.stores();
-    }
-
-    /// Adds the one that stands before them, if it is listed first of all; reports whether it is.
-    fn takes(&mut self, facts: &Facts) -> bool {
-        if !self.may_pass(facts.memory) || !self.is_prompt(facts) {
-            return false;
-        }
-        let Some(words) = self.rise_to(facts) else {
-            return false;
-        };
-        self.rise(words);
-        self.add(facts);
         true
     }
 }
@@ -142,7 +111,18 @@ pub fn list_standing(
     exit: &Exit,
     list: &mut Vec<Plain>,
 ) -> Result<bool, AllocError> {
-    let mut standing = Standing::before_exit(exit);
+    let at_exit = Resources::touched_at_exit(exit);
+    let mut standing = Standing {
+        at_exit,
+        next: at_exit,
+        top: Level::EMPTY,
+        second: Level::EMPTY,
+        third: Level::EMPTY,
+        is_lowest: true,
+        has_load: false,
+        has_store: false,
+        has_product: false,
+    };
     let mut wanted = Resources::ALL;
     for inst in insts.iter().rev() {
         let facts = Facts::of(inst);
