@@ -47,12 +47,6 @@ fn is_maybe_register(x: Option<Register>) -> bool
     }
 }
 
-fn are_registers(all: &[Register]) -> bool
-    ensures { IsTrue result ↔ All IsRegister all.now }
-{
-    all.iter().all(|&x| x < MAX_REGISTERS)
-}
-
 /// Reports whether an instruction names what is there, with so many globals.
 fn is_inst(globals: usize, inst: RInst) -> bool
     ensures { IsTrue result ↔ IsInst globals inst }
@@ -93,7 +87,7 @@ fn is_exit(functions: &[RFunc], blocks: usize, exit: &RExit) -> bool
         }
         RExit::Call(function, arguments, to, next) => {
             is_callee(functions, *function, arguments.len())
-                && are_registers(arguments.as_slice())
+                && arguments.iter().all(|&x| x < MAX_REGISTERS)
                 && is_maybe_register(*to)
                 && (*next as usize) < blocks
         }
@@ -102,24 +96,11 @@ fn is_exit(functions: &[RFunc], blocks: usize, exit: &RExit) -> bool
     }
 }
 
-fn are_insts(globals: usize, insts: &[RInst]) -> bool
-    ensures { IsTrue result ↔ All (IsInst globals) insts.now }
-{
-    insts.iter().all(|&inst| is_inst(globals, inst))
-}
-
 fn is_block(functions: &[RFunc], globals: usize, blocks: usize, block: &RBlock) -> bool
     ensures { IsTrue result ↔ IsBlock functions.now globals blocks block.now }
 {
-    are_insts(globals, block.insts.as_slice()) && is_exit(functions, blocks, &block.exit)
-}
-
-fn are_blocks(functions: &[RFunc], globals: usize, count: usize, blocks: &[RBlock]) -> bool
-    ensures { IsTrue result ↔ All (IsBlock functions.now globals count) blocks.now }
-{
-    blocks
-        .iter()
-        .all(|block| is_block(functions, globals, count, block))
+    block.insts.iter().all(|&inst| is_inst(globals, inst))
+        && is_exit(functions, blocks, &block.exit)
 }
 
 fn is_function(functions: &[RFunc], globals: usize, function: &RFunc) -> bool
@@ -128,7 +109,9 @@ fn is_function(functions: &[RFunc], globals: usize, function: &RFunc) -> bool
     let blocks = function.blocks.as_slice();
     function.parameters <= MAX_PARAMETERS
         && !blocks.is_empty()
-        && are_blocks(functions, globals, blocks.len(), blocks)
+        && blocks
+            .iter()
+            .all(|block| is_block(functions, globals, blocks.len(), block))
 }
 
 fn are_functions(functions: &[RFunc], globals: usize) -> bool
@@ -181,16 +164,10 @@ fn words_fit(globals: &[RGlobal]) -> bool
     true
 }
 
-fn sizes_fit(functions: &[RFunc], globals: &[RGlobal]) -> bool
-    ensures { IsTrue result ↔ (sum_by block_count functions.now ≤ MAX_BLOCKS) × (sum_by word_count globals.now ≤ MAX_GLOBAL_WORDS) }
-{
-    blocks_fit(functions) && words_fit(globals)
-}
-
 fn is_program(functions: &[RFunc], globals: &[RGlobal], main: FunctionNumber) -> bool
     ensures { IsTrue result ↔ IsProgram (program_of functions.now globals.now main) }
 {
-    if !sizes_fit(functions, globals) || !are_globals(globals) {
+    if !blocks_fit(functions) || !words_fit(globals) || !are_globals(globals) {
         return false;
     }
     is_callee(functions, main, 0) && are_functions(functions, globals.len())
