@@ -90,32 +90,6 @@ fn opposite_if(opposite: bool) -> Form
     }
 }
 
-/// Returns how a branch tells whether one word is less than another as a signed number.
-fn signed_less(left: Option<u32>, right: Option<u32>) -> Form
-    ensures { Some result ≡ form_of LtS left right }
-{
-    if is_known_zero(left) {
-        Form::OnRight(ZeroTest::AboveZero)
-    } else if is_known_zero(right) {
-        Form::OnLeft(ZeroTest::BelowZero)
-    } else {
-        opposite_if(is_immediate(Op::LeS, left))
-    }
-}
-
-/// Returns how a branch tells whether one word is at most another as a signed number.
-fn signed_at_most(left: Option<u32>, right: Option<u32>) -> Form
-    ensures { Some result ≡ form_of LeS left right }
-{
-    if is_known_zero(right) {
-        Form::OnLeft(ZeroTest::AtMostZero)
-    } else if is_known_zero(left) {
-        Form::OnRight(ZeroTest::AtLeastZero)
-    } else {
-        opposite_if(!is_immediate(Op::LeS, right))
-    }
-}
-
 /// Returns how a branch tells the result of a comparison, from what is known of its operands; None of another operator.
 fn form_of(op: Op, left: Option<u32>, right: Option<u32>) -> Option<Form>
     ensures { result ≡ form_of op left right }
@@ -123,9 +97,13 @@ fn form_of(op: Op, left: Option<u32>, right: Option<u32>) -> Option<Form>
     match op {
         Op::Eq => Some(Form::OnPair(PairTest::Equal)),
         Op::Ne => Some(Form::OnPair(PairTest::NotEqual)),
-        Op::LtS => Some(signed_less(left, right)),
+        Op::LtS if is_known_zero(left) => Some(Form::OnRight(ZeroTest::AboveZero)),
+        Op::LtS if is_known_zero(right) => Some(Form::OnLeft(ZeroTest::BelowZero)),
+        Op::LtS => Some(opposite_if(is_immediate(Op::LeS, left))),
         Op::LtU => Some(opposite_if(is_immediate(Op::LeU, left))),
-        Op::LeS => Some(signed_at_most(left, right)),
+        Op::LeS if is_known_zero(right) => Some(Form::OnLeft(ZeroTest::AtMostZero)),
+        Op::LeS if is_known_zero(left) => Some(Form::OnRight(ZeroTest::AtLeastZero)),
+        Op::LeS => Some(opposite_if(!is_immediate(Op::LeS, right))),
         Op::LeU => Some(opposite_if(!is_immediate(Op::LeU, right))),
         _ => None,
     }

@@ -103,38 +103,22 @@ pub fn known_word(facts: &Knowledge, x: Register) -> Option<u32>
     known_of(facts.known.as_slice(), x)
 }
 
-/// Returns the word that a register should hold but doesn't yet.
-fn deferred_in(table: &[Option<u32>], r: NonzeroReg) -> Option<u32>
-    ensures { result ≡ word_in table.now r }
-{
-    *table.get(r.index() as usize)?
-}
-
 /// Returns the word that a home should hold but doesn't yet.
 fn deferred_at(table: &[Option<u32>], place: &Option<Home>) -> Option<u32>
     ensures { result ≡ deferred_at (word_in table.now) place.now }
 {
     match (*place)? {
-        Home::Reg(r) => deferred_in(table, r),
+        Home::Reg(r) => *table.get(r.index() as usize)?,
         _ => None,
     }
-}
-
-/// Sets what a register should hold but doesn't yet.
-fn put_deferred(table: &mut [Option<u32>; 32], r: NonzeroReg, word: Option<u32>)
-    ensures { word_in table.new ≡ places_with (word_in table.old) r word }
-{
-    table[r.index() as usize] = word;
 }
 
 /// Defers a constant whose home is a caller-saved register.
 fn defer(table: &mut [Option<u32>; 32], place: &Option<Home>, word: u32)
     ensures { word_in table.new ≡ deferred_const place.now word (word_in table.old) }
 {
-    if let Some(home) = *place {
-        if let Home::Reg(r) = home {
-            put_deferred(table, r, (!is_callee_saved(r.index())).then_some(word));
-        }
+    if let Some(Home::Reg(r)) = *place {
+        table[r.index() as usize] = (!is_callee_saved(r.index())).then_some(word);
     }
 }
 
@@ -142,10 +126,8 @@ fn defer(table: &mut [Option<u32>; 32], place: &Option<Home>, word: u32)
 fn clear_deferred(table: &mut [Option<u32>; 32], place: &Option<Home>)
     ensures { word_in table.new ≡ deferred_none place.now (word_in table.old) }
 {
-    if let Some(home) = *place {
-        if let Home::Reg(r) = home {
-            put_deferred(table, r, None);
-        }
+    if let Some(Home::Reg(r)) = *place {
+        table[r.index() as usize] = None;
     }
 }
 
@@ -158,26 +140,15 @@ fn put_fact(facts: &mut Vec<Fact>, register: Register, word: Option<u32>) -> Res
     Ok(())
 }
 
-/// Forgets the base that is kept, if a register is written that its index names.
-fn forget_kept(kept: &mut Option<Kept>, r: NonzeroReg)
-    ensures { kept.new ≡ kept_without r kept.old }
-{
-    if let Some(k) = *kept {
-        if touches(&k.index, r) {
-            *kept = None;
-        }
-    }
-}
-
 /// Forgets the base that is kept, if a home is written that its index names.
 fn pass_kept(kept: &mut Option<Kept>, place: &Option<Home>)
     ensures { kept.new ≡ kept_past place.now kept.old }
 {
-    if let Some(home) = *place {
-        match home {
-            Home::Reg(r) | Home::Copied(r, _) => forget_kept(kept, r),
-            Home::Slot(_) => {}
-        }
+    if let Some(Home::Reg(r) | Home::Copied(r, _)) = *place
+        && let Some(k) = *kept
+        && touches(&k.index, r)
+    {
+        *kept = None;
     }
 }
 
@@ -238,15 +209,6 @@ fn sum_at(
     sum_offset(place, op, Some(word), &operand(facts, frame, a))
 }
 
-/// Puts a new offset in the place of an old one, if there is a new one.
-fn put_offset(offset: &mut Option<Offset>, new: Option<Offset>)
-    ensures { offset.new ≡ or_offset new offset.old }
-{
-    if let Some(new) = new {
-        *offset = Some(new);
-    }
-}
-
 /// Learns that a register is written, and with which word; an Err means out of memory, and leaves what was known.
 #[inline(always)]
 fn learn_write(
@@ -301,7 +263,7 @@ pub(crate) fn learn(facts: &mut Knowledge, frame: &Frame, inst: &RInst) -> Resul
             let place = locate(frame, *d);
             let sum = sum_at(facts, frame, *op, &place, *a, *b);
             learn_write(facts, &place, *d, None)?;
-            put_offset(&mut facts.offset, sum);
+            facts.offset = sum.or(facts.offset);
             Ok(())
         }
         RInst::Load(d, a, i) => {

@@ -88,26 +88,15 @@ pub(crate) fn touches(offset: &Offset, r: NonzeroReg) -> bool
     offset.register == r || offset.base == r
 }
 
-/// Forgets an offset, if a register is written that it has to do with.
-fn forget_offset(offset: &mut Option<Offset>, r: NonzeroReg)
-    ensures { offset.new ≡ offset_without r offset.old }
-{
-    if let Some(o) = *offset {
-        if touches(&o, r) {
-            *offset = None;
-        }
-    }
-}
-
 /// Forgets an offset, if a home is written that it has to do with.
 pub(crate) fn pass_offset(offset: &mut Option<Offset>, place: &Option<Home>)
     ensures { offset.new ≡ offset_past place.now offset.old }
 {
-    if let Some(home) = *place {
-        match home {
-            Home::Reg(r) | Home::Copied(r, _) => forget_offset(offset, r),
-            Home::Slot(_) => {}
-        }
+    if let Some(Home::Reg(r) | Home::Copied(r, _)) = *place
+        && let Some(o) = *offset
+        && touches(&o, r)
+    {
+        *offset = None;
     }
 }
 

@@ -157,17 +157,6 @@ fn second_of(op: Op, rd: Reg) -> Option<Plain>
     }
 }
 
-/// Returns an exclusive or with a word, which is a complement where all bits are set.
-fn xor_with(rd: Reg, rs: Reg, word: u32) -> Option<Plain>
-    ensures { result ≡ immediate Xor rd rs word }
-{
-    if word == 4_294_967_295 {
-        Some(alu(AluOp::Nor, rd, rs, Reg::ZERO))
-    } else {
-        if_half(LogicOp::Xori, rd, rs, word)
-    }
-}
-
 /// Reports whether a word is a power of 2.
 pub(crate) fn is_power(word: u32) -> bool
     ensures { result ≡ is_power word }
@@ -184,7 +173,9 @@ fn immediate(op: Op, rd: Reg, rs: Reg, word: u32) -> Option<Plain>
         Op::Sub => if_small(ImmOp::Addiu, rd, rs, 0u32.wrapping_sub(word)),
         Op::And => if_half(LogicOp::Andi, rd, rs, word),
         Op::Or => if_half(LogicOp::Ori, rd, rs, word),
-        Op::Xor => xor_with(rd, rs, word),
+        // (an exclusive or with a word whose bits are all set is a complement)
+        Op::Xor if word == 4_294_967_295 => Some(alu(AluOp::Nor, rd, rs, Reg::ZERO)),
+        Op::Xor => if_half(LogicOp::Xori, rd, rs, word),
         Op::Shl => Some(shift(ShiftOp::Sll, rd, rs, word)),
         Op::ShrU => Some(shift(ShiftOp::Srl, rd, rs, word)),
         Op::ShrS => Some(shift(ShiftOp::Sra, rd, rs, word)),
