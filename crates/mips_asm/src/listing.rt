@@ -165,15 +165,6 @@ fn put_data(out: &mut String, bytes: &[u8]) -> Result<(), AllocError>
     put_bytes(out, DATA_BASE + 4 * count as u32, odd)
 }
 
-fn put_report(out: &mut String, counts: Option<Counts>) -> Result<(), AllocError>
-    ensures { OnOk result (string_bytes out.new ≡ string_bytes out.old ++ report_line (version_of counts)) }
-{
-    match counts {
-        None => Ok(()),
-        Some(counts) => writeln!(out, "report {counts}"),
-    }
-}
-
 /// Returns the listing of an image: exactly `listing` of `specs/Listing.antt`. `Err` only if memory runs out.
 pub fn list(alloc: Global, image: &Image) -> Result<String, AllocError>
     ensures { IfOk result (λ text. string_bytes text ≡ listing image.now) }
@@ -181,6 +172,8 @@ pub fn list(alloc: Global, image: &Image) -> Result<String, AllocError>
     let mut out = String::new(alloc);
     put_code(&mut out, image.code())?;
     put_data(&mut out, image.bytes())?;
-    put_report(&mut out, image.counts())?;
+    if let Some(counts) = image.counts() {
+        writeln!(out, "report {counts}")?;
+    }
     Ok(out)
 }
