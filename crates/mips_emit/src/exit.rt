@@ -27,7 +27,7 @@ pub fn emit_arrival(
     requires { IsReachable frame.now }
     ensures { Emits result code.old.items (arrive (locations frame.now x) t) code.new.items }
 {
-    emit_arrive(code, locate(frame, x), t)
+    emit_arrive(code, &locate(frame, x), t)
 }
 
 /// Emits a pseudo-register into a register of its own, after the last instruction; an Err means out of memory.

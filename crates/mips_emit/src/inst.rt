@@ -44,35 +44,15 @@ struct Element {
     by: Reach,
 }
 
-/// Emits a word into a register, or nothing yet.
-fn emit_held(code: &mut Vec<Plain>, r: NonzeroReg, word: u32) -> Result<(), AllocError>
-    ensures { Emits result code.old.items (const_code (Some (Reg r)) word) code.new.items }
+/// Emits a word into a home, or nothing yet where that is a caller-saved register.
+fn emit_const(code: &mut Vec<Plain>, place: &Option<Home>, word: u32) -> Result<(), AllocError>
+    requires { FitsPlace place.now }
+    ensures { Emits result code.old.items (const_code place.now (wrap word)) code.new.items }
 {
-    if is_callee_saved(r.index()) {
-        emit_bring(code, r, &word_source(word))
-    } else {
-        emit_one(code, Plain::nop())
-    }
-}
-
-/// Emits a word into a pseudo-register.
-fn emit_const(
-    code: &mut Vec<Plain>,
-    frame: &Frame,
-    d: Register,
-    word: u32,
-) -> Result<(), AllocError>
-    requires { IsReachable frame.now }
-    ensures { Emits result code.old.items (const_code (locations frame.now d) (wrap word)) code.new.items }
-{
-    let place = locate(frame, d);
-    match &place {
-        None => Ok(()),
-        // (rattle 13f: a nested pattern through another crate's type ends in "a bug in rattle": CONTRIBUTING.md)
-        Some(home) => match home {
-            Home::Reg(r) => emit_held(code, *r, word),
-            _ => emit_put(code, &place, &word_source(word)),
-        },
+    match *place {
+        Some(Home::Reg(r)) if is_callee_saved(r.index()) => emit_bring(code, r, &word_source(word)),
+        Some(Home::Reg(_)) => emit_one(code, Plain::nop()),
+        _ => emit_put(code, place, &word_source(word)),
     }
 }
 
@@ -234,7 +214,7 @@ fn emit_inst(
 {
     let frame = setting.frame;
     match inst {
-        RInst::Const(d, word) => emit_const(code, frame, *d, *word),
+        RInst::Const(d, word) => emit_const(code, &locate(frame, *d), *word),
         RInst::Move(d, a) => emit_move(code, facts, frame, *d, *a),
         RInst::Bin(op, d, a, b) => {
             let x = operand_with(facts, frame, *a);

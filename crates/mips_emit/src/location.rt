@@ -39,14 +39,10 @@ pub(crate) fn locate(frame: &Frame, x: Register) -> Option<Home>
 pub(crate) fn inner_of(place: &Option<Home>) -> NonzeroReg
     ensures { result ≡ inner_of place.now }
 {
-    match place {
+    match *place {
         None => register(SCRATCH_1),
-        // (rattle 13f: a nested pattern through another crate's type ends in "a bug in rattle": CONTRIBUTING.md)
-        Some(home) => match home {
-            Home::Reg(r) => register(SCRATCH_3 - 2 * (r.index() % 2)),
-            Home::Slot(k) => register(SCRATCH_1 + 2 * (*k % 2) as u8),
-            Home::Copied(r, _) => register(SCRATCH_3 - 2 * (r.index() % 2)),
-        },
+        Some(Home::Reg(r) | Home::Copied(r, _)) => register(SCRATCH_3 - 2 * (r.index() % 2)),
+        Some(Home::Slot(k)) => register(SCRATCH_1 + 2 * (k % 2) as u8),
     }
 }
 
@@ -56,14 +52,9 @@ fn known_source(word: u32, place: &Option<Home>) -> Source
     ensures value { result ≡ known_source word place.now }
     ensures fits { FitsSource result }
 {
-    match place {
-        None => Source::Word(word),
-        // (rattle 13f: a nested pattern through another crate's type ends in "a bug in rattle": CONTRIBUTING.md)
-        Some(home) => match home {
-            Home::Reg(_) => Source::From(*home),
-            Home::Slot(_) => Source::Word(word),
-            Home::Copied(r, _) => Source::From(Home::Reg(*r)),
-        },
+    match *place {
+        Some(Home::Reg(r) | Home::Copied(r, _)) => Source::From(Home::Reg(r)),
+        None | Some(Home::Slot(_)) => Source::Word(word),
     }
 }
 
@@ -73,14 +64,10 @@ fn unknown_source(place: &Option<Home>) -> Source
     ensures value { result ≡ source None place.now }
     ensures fits { FitsSource result }
 {
-    match place {
+    match *place {
         None => Source::Zero,
-        // (rattle 13f: a nested pattern through another crate's type ends in "a bug in rattle": CONTRIBUTING.md)
-        Some(home) => match home {
-            Home::Reg(_) => Source::From(*home),
-            Home::Slot(_) => Source::From(*home),
-            Home::Copied(r, _) => Source::From(Home::Reg(*r)),
-        },
+        Some(Home::Slot(k)) => Source::From(Home::Slot(k)),
+        Some(Home::Reg(r) | Home::Copied(r, _)) => Source::From(Home::Reg(r)),
     }
 }
 

@@ -84,14 +84,9 @@ fn stays(t: NonzeroReg, x: &Source) -> bool
 pub(crate) fn into_of(place: &Option<Home>) -> NonzeroReg
     ensures { result ≡ into place.now }
 {
-    match place {
-        None => inner_of(place),
-        // (rattle 13f: a nested pattern through another crate's type ends in "a bug in rattle": CONTRIBUTING.md)
-        Some(home) => match home {
-            Home::Reg(r) => *r,
-            Home::Slot(_) => inner_of(place),
-            Home::Copied(r, _) => *r,
-        },
+    match *place {
+        Some(Home::Reg(r) | Home::Copied(r, _)) => r,
+        None | Some(Home::Slot(_)) => inner_of(place),
     }
 }
 
@@ -101,14 +96,10 @@ pub(crate) fn emit_finish(code: &mut Vec<Plain>, place: &Option<Home>) -> Result
     requires { FitsPlace place.now }
     ensures { Emits result code.old.items (finish place.now) code.new.items }
 {
-    match place {
-        None => Ok(()),
-        // (rattle 13f: a nested pattern through another crate's type ends in "a bug in rattle": CONTRIBUTING.md)
-        Some(home) => match home {
-            Home::Reg(_) => Ok(()),
-            Home::Slot(k) => emit_store_word(code, inner_of(place).reg(), 4 * *k),
-            Home::Copied(r, k) => emit_store_word(code, r.reg(), 4 * *k),
-        },
+    match *place {
+        None | Some(Home::Reg(_)) => Ok(()),
+        Some(Home::Slot(k)) => emit_store_word(code, inner_of(place).reg(), 4 * k),
+        Some(Home::Copied(r, k)) => emit_store_word(code, r.reg(), 4 * k),
     }
 }
 
@@ -122,43 +113,37 @@ pub(crate) fn emit_put(
     requires source { FitsSource x.now }
     ensures { Emits result code.old.items (put_at place.now x.now) code.new.items }
 {
-    match place {
+    match *place {
         None => Ok(()),
-        // (rattle 13f: a nested pattern through another crate's type ends in "a bug in rattle": CONTRIBUTING.md)
-        Some(home) => match home {
-            Home::Reg(r) => emit_bring(code, *r, x),
-            Home::Slot(k) => {
-                let inner = inner_of(place);
-                emit_fetch(code, inner, x)?;
-                emit_store_word(code, operand_register(inner, x), 4 * *k)
-            }
-            Home::Copied(r, k) => {
-                emit_bring(code, *r, x)?;
-                emit_store_word(code, r.reg(), 4 * *k)
-            }
-        },
+        Some(Home::Reg(r)) => emit_bring(code, r, x),
+        Some(Home::Slot(k)) => {
+            let inner = inner_of(place);
+            emit_fetch(code, inner, x)?;
+            emit_store_word(code, operand_register(inner, x), 4 * k)
+        }
+        Some(Home::Copied(r, k)) => {
+            emit_bring(code, r, x)?;
+            emit_store_word(code, r.reg(), 4 * k)
+        }
     }
 }
 
 /// Emits a register into a home, but where it is that register; an Err means out of memory.
 pub(crate) fn emit_arrive(
     code: &mut Vec<Plain>,
-    place: Option<Home>,
+    place: &Option<Home>,
     t: NonzeroReg,
 ) -> Result<(), AllocError>
-    requires { FitsPlace place }
-    ensures { Emits result code.old.items (arrive place t) code.new.items }
+    requires { FitsPlace place.now }
+    ensures { Emits result code.old.items (arrive place.now t) code.new.items }
 {
-    match place {
+    match *place {
         None => Ok(()),
-        // (rattle 13f: a nested pattern through another crate's type ends in "a bug in rattle": CONTRIBUTING.md)
-        Some(home) => match home {
-            Home::Reg(r) => emit_carry(code, r, &Source::From(Home::Reg(t))),
-            Home::Slot(k) => emit_store_word(code, t.reg(), 4 * k),
-            Home::Copied(r, k) => {
-                emit_carry(code, r, &Source::From(Home::Reg(t)))?;
-                emit_store_word(code, r.reg(), 4 * k)
-            }
-        },
+        Some(Home::Reg(r)) => emit_carry(code, r, &Source::From(Home::Reg(t))),
+        Some(Home::Slot(k)) => emit_store_word(code, t.reg(), 4 * k),
+        Some(Home::Copied(r, k)) => {
+            emit_carry(code, r, &Source::From(Home::Reg(t)))?;
+            emit_store_word(code, r.reg(), 4 * k)
+        }
     }
 }
