@@ -51,11 +51,11 @@ impl Free {
             from: graph.lists.len(),
         };
         for k in 0..graph.count() {
-            if let Some(node) = graph.nodes.get(k as usize) {
-                if node.waits_for == 0 {
-                    let rank = rank_of(node, k);
-                    free.insert(graph, rank);
-                }
+            if let Some(node) = graph.nodes.get(k as usize)
+                && node.waits_for == 0
+            {
+                let rank = rank_of(node, k);
+                free.insert(graph, rank);
             }
         }
         free

@@ -105,10 +105,10 @@ pub fn mark_fixed(nodes: &mut [Node]) {
         if let Some(access) = access {
             mark(nodes, &mut buckets, k, &access, &writers);
         }
-        if let Some((resource, _)) = writes.split() {
-            if let Some(writer) = writers.get_mut(resource) {
-                *writer = Link::to(k);
-            }
+        if let Some((resource, _)) = writes.split()
+            && let Some(writer) = writers.get_mut(resource)
+        {
+            *writer = Link::to(k);
         }
     }
 }

@@ -35,10 +35,10 @@ impl<'a> Passed<'a> {
         };
         let passed = self.insts.get(k.saturating_add(1)..).unwrap_or_default();
         for inst in passed {
-            if let Some(access) = access_of(inst) {
-                if !store.passes(&access) {
-                    return false;
-                }
+            if let Some(access) = access_of(inst)
+                && !store.passes(&access)
+            {
+                return false;
             }
         }
         self.look_at_loads(k);

@@ -166,11 +166,8 @@ fn kept_with(global: GlobalNumber, index: Option<Offset>, kept: Option<Kept>) ->
 pub(crate) fn index_register(known: Option<u32>, x: &Source) -> Option<NonzeroReg>
     ensures { result ≡ index_register known x.now }
 {
-    match x {
-        Source::From(home) if known.is_none() => match home {
-            Home::Reg(r) => Some(*r),
-            _ => None,
-        },
+    match *x {
+        Source::From(Home::Reg(r)) if known.is_none() => Some(r),
         _ => None,
     }
 }

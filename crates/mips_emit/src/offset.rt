@@ -57,11 +57,8 @@ fn offset_from(t: NonzeroReg, r: NonzeroReg, added: Option<u32>) -> Option<Offse
 fn offset_of(t: NonzeroReg, op: Op, right: Option<u32>, x: &Source) -> Option<Offset>
     ensures { result ≡ offset_of t op right x.now }
 {
-    match x {
-        Source::From(home) => match home {
-            Home::Reg(r) => offset_from(t, *r, addend(op, right?)),
-            _ => None,
-        },
+    match *x {
+        Source::From(Home::Reg(r)) => offset_from(t, r, addend(op, right?)),
         _ => None,
     }
 }

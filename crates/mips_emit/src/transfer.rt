@@ -18,13 +18,10 @@ pub fn emit_fetch(code: &mut Vec<Plain>, t: NonzeroReg, x: &Source) -> Result<()
     requires { FitsSource x.now }
     ensures { Emits result code.old.items (fetch t x.now) code.new.items }
 {
-    match x {
-        Source::Zero => Ok(()),
-        Source::Word(word) => emit_li(code, t.reg(), *word),
-        Source::From(home) => match home {
-            Home::Slot(k) => emit_load_word(code, t, 4 * *k),
-            _ => Ok(()),
-        },
+    match *x {
+        Source::Word(word) => emit_li(code, t.reg(), word),
+        Source::From(Home::Slot(k)) => emit_load_word(code, t, 4 * k),
+        Source::Zero | Source::From(_) => Ok(()),
     }
 }
 
@@ -32,14 +29,10 @@ pub fn emit_fetch(code: &mut Vec<Plain>, t: NonzeroReg, x: &Source) -> Result<()
 pub fn operand_register(t: NonzeroReg, x: &Source) -> Reg
     ensures { result ≡ operand_register t x.now }
 {
-    match x {
+    match *x {
         Source::Zero => Reg::ZERO,
-        Source::Word(_) => t.reg(),
-        Source::From(home) => match home {
-            Home::Reg(r) => r.reg(),
-            Home::Slot(_) => t.reg(),
-            Home::Copied(r, _) => r.reg(),
-        },
+        Source::Word(_) | Source::From(Home::Slot(_)) => t.reg(),
+        Source::From(Home::Reg(r) | Home::Copied(r, _)) => r.reg(),
     }
 }
 
@@ -48,14 +41,11 @@ pub(crate) fn emit_bring(code: &mut Vec<Plain>, t: NonzeroReg, x: &Source) -> Re
     requires { FitsSource x.now }
     ensures { Emits result code.old.items (bring t x.now) code.new.items }
 {
-    match x {
+    match *x {
         Source::Zero => emit_move(code, t.reg(), Reg::ZERO),
-        Source::Word(word) => emit_li(code, t.reg(), *word),
-        Source::From(home) => match home {
-            Home::Reg(r) => emit_move(code, t.reg(), r.reg()),
-            Home::Slot(k) => emit_load_word(code, t, 4 * *k),
-            Home::Copied(r, _) => emit_move(code, t.reg(), r.reg()),
-        },
+        Source::Word(word) => emit_li(code, t.reg(), word),
+        Source::From(Home::Slot(k)) => emit_load_word(code, t, 4 * k),
+        Source::From(Home::Reg(r) | Home::Copied(r, _)) => emit_move(code, t.reg(), r.reg()),
     }
 }
 
@@ -64,19 +54,9 @@ pub(crate) fn emit_carry(code: &mut Vec<Plain>, t: NonzeroReg, x: &Source) -> Re
     requires { FitsSource x.now }
     ensures { Emits result code.old.items (carry t x.now) code.new.items }
 {
-    if stays(t, x) {
-        return Ok(());
-    }
-    emit_bring(code, t, x)
-}
-
-/// Reports whether an operand is in a register already.
-fn stays(t: NonzeroReg, x: &Source) -> bool
-    ensures { result ≡ stays t x.now }
-{
-    match x {
-        Source::From(home) => matches!(*home, Home::Reg(r) | Home::Copied(r, _) if r == t),
-        _ => false,
+    match *x {
+        Source::From(Home::Reg(r) | Home::Copied(r, _)) if r == t => Ok(()),
+        _ => emit_bring(code, t, x),
     }
 }
 

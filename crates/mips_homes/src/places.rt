@@ -48,10 +48,10 @@ fn first_free(taken: &[u8], registers: &[u8]) -> Option<u8>
 fn free_register(taken: &[u8], preference: Option<NonzeroReg>) -> Option<NonzeroReg>
     ensures { result ≡ free_register taken.now preference }
 {
-    if let Some(r) = preference {
-        if !is_taken(taken, r.index()) {
-            return Some(r);
-        }
+    if let Some(r) = preference
+        && !is_taken(taken, r.index())
+    {
+        return Some(r);
     }
     let r = first_free(taken, &TEMPORARIES)?;
     Some(register(r))

@@ -63,10 +63,10 @@ fn spare_constant(insts: &[RInst]) -> Option<Register>
     ensures { result ≡ spare_constant insts.now }
 {
     for inst in insts {
-        if let RInst::Const(d, _) = inst {
-            if writes_first(insts, *d) {
-                return Some(*d);
-            }
+        if let RInst::Const(d, _) = inst
+            && writes_first(insts, *d)
+        {
+            return Some(*d);
         }
     }
     None
