@@ -5,12 +5,11 @@ ghost use Rattle.std.specs.String.{string_bytes};
 ghost use Rattle.mips_isa.specs.Starting.{data_base};
 ghost use Rattle.mips_code.specs.Decoding.{instruction_of};
 ghost use Rattle.image.specs.Images.{code_base, word_at_byte, words_of};
-ghost use Rattle.image.specs.Views.{version_of};
 ghost use Rattle.image.specs.declared.limits.TheConstants as image_limits;
-ghost use Rattle.mips_asm.specs.Listing.{byte_line, code_line, data_lines, decoded_text, lines_at, listing, report_line};
+ghost use Rattle.mips_asm.specs.Listing.{byte_line, code_line, data_lines, decoded_text, lines_at, listing};
 ghost use Rattle.mips_asm.specs.Listing.{word_line};
 
-use image::{Counts, Image};
+use image::Image;
 use mips_code::decode;
 use mips_isa::{ByteDigits, CODE_BASE, DATA_BASE, Inst, ListedControl, WordDigits};
 use std::alloc::{AllocError, Global};

@@ -16,7 +16,7 @@ use Rattle.mips_emit.specs.declared.location.Source.TheVariants.{Zero, Word, Fro
 use Rattle.mips_emit.specs.declared.facts.Fact.{Fact}
 use Rattle.mips_emit.specs.declared.facts.Kept.{Kept}
 use Rattle.mips_emit.specs.declared.offset.Offset.{Offset}
-use Rattle.mips_emit.specs.Offsets.{sum_offset, or_offset, without, past, offset_past, index_with}
+use Rattle.mips_emit.specs.Offsets.{sum_offset, or_offset, past, offset_past, index_with}
 use Rattle.mips_emit.specs.declared.facts.Knowledge.{Knowledge}
 use Rattle.mips_emit.specs.declared.facts.Last.{Last}
 
@@ -117,9 +117,6 @@ kept_with a None kept = kept
 kept_with a (Some o) kept = Some (record { global = a; index = o })
 
 -- it is so while its registers aren't written
-abbrev pub kept_without : ℕ → Option Kept → Option Kept
-kept_without r kept = without (λ k. k.index) r kept
-
 abbrev pub kept_past : Option Home → Option Kept → Option Kept
 kept_past l kept = past (λ k. k.index) l kept
 

@@ -51,9 +51,6 @@ past offset (Some (Reg r)) o = without offset r o
 past offset (Some (Copied r k)) o = without offset r o
 past offset _ o = o
 
-abbrev pub offset_without : ℕ → Option Offset → Option Offset
-offset_without r o = without (λ a. a) r o
-
 abbrev pub offset_past : Option Home → Option Offset → Option Offset
 offset_past l o = past (λ a. a) l o
 

@@ -7,9 +7,9 @@ ghost use Rattle.mblock.specs.declared.exit.Exit.TheVariants.{BranchPair, Branch
 ghost use Rattle.rtl.specs.declared.operator.Op.TheVariants.{LtS, LeS};
 ghost use Rattle.mips_emit.specs.Frames.{IsReachable};
 ghost use Rattle.mips_emit.specs.Locations.{facts_of, locations, FitsSource};
-ghost use Rattle.mips_emit.specs.Comparisons.{is_known_zero, is_immediate, opposite_if, form_of, opposite_op, known_truth, form_with};
-ghost use Rattle.mips_emit.specs.Comparisons.{comparison_code, comparison_exit, is_asked, form_for, is_caller_saved, is_result, returned};
-ghost use Rattle.mips_emit.specs.Comparisons.{operator_comparison, comparison_of, FitsComparison, tested};
+ghost use Rattle.mips_emit.specs.Comparisons.{is_known_zero, is_immediate, opposite_if, form_of, opposite_op, known_truth};
+ghost use Rattle.mips_emit.specs.Comparisons.{comparison_code, comparison_exit, is_asked, form_for, is_caller_saved, returned};
+ghost use Rattle.mips_emit.specs.Comparisons.{comparison_of, FitsComparison, tested};
 ghost use Rattle.mips_emit.specs.Code.{fetch, nop};
 ghost use Rattle.mips_emit.specs.Prefixes.{Emits};
 
@@ -117,17 +117,6 @@ fn known_truth(op: Op, left: Option<u32>, right: Option<u32>) -> Option<bool>
     Some(word != 0)
 }
 
-/// Returns the form of a comparison; one of known words isn't made.
-fn form_with(truth: Option<bool>, form: Option<Form>) -> Option<Form>
-    ensures { result ≡ form_with truth form }
-{
-    let form = form?;
-    match truth {
-        None => Some(form),
-        Some(holds) => Some(Form::Known(holds)),
-    }
-}
-
 /// Returns the comparison that holds of turned operands exactly if this one doesn't.
 fn opposite_op(op: Op) -> Op
     ensures { result ≡ opposite_op op }
@@ -228,13 +217,16 @@ fn is_asked(asked: Asked, d: Register) -> bool
     matches!(asked, Asked::Branched(c) | Asked::Returned(c) if c == d)
 }
 
-/// Returns how an exit takes the result of an operator, if it does.
+/// Returns how an exit takes the result of an operator, if it does; a comparison of known words isn't made.
 fn form_for(asked: Asked, op: Op, left: Option<u32>, right: Option<u32>) -> Option<Form>
     ensures { result ≡ form_for asked op left right }
 {
     match asked {
         Asked::Nothing => None,
-        Asked::Branched(_) => form_with(known_truth(op, left, right), form_of(op, left, right)),
+        Asked::Branched(_) => {
+            let form = form_of(op, left, right)?;
+            Some(known_truth(op, left, right).map_or(form, Form::Known))
+        }
         Asked::Returned(_) => Some(Form::InResult),
     }
 }
@@ -247,29 +239,6 @@ fn is_caller_saved(place: Option<Home>) -> bool
         Some(home) => matches!(home, Home::Reg(r) if !is_callee_saved(r.index())),
         None => false,
     }
-}
-
-/// Makes an operator a comparison, if it is one.
-fn operator_comparison(
-    asked: Asked,
-    op: Op,
-    d: Register,
-    x: &Operand,
-    y: &Operand,
-) -> Option<Comparison>
-    requires left { FitsSource x.now.source }
-    requires right { FitsSource y.now.source }
-    ensures value { result ≡ operator_comparison d op x.now y.now (form_for asked op x.now.known y.now.known) }
-    ensures fits { FitsComparison result }
-{
-    let form = form_for(asked, op, x.known, y.known)?;
-    Some(Comparison {
-        result: d,
-        op,
-        form,
-        left: *x,
-        right: *y,
-    })
 }
 
 /// Returns the comparison that an instruction is, if it is one with the exit after it, which goes by the pseudo-register asked for.
@@ -285,9 +254,16 @@ pub(crate) fn comparison_of(
 {
     match inst {
         RInst::Bin(op, d, a, b) if is_asked(asked, *d) && is_caller_saved(locate(frame, *d)) => {
-            let x = operand_with(facts, frame, *a);
-            let y = operand_with(facts, frame, *b);
-            operator_comparison(asked, *op, *d, &x, &y)
+            let left = operand_with(facts, frame, *a);
+            let right = operand_with(facts, frame, *b);
+            let form = form_for(asked, *op, left.known, right.known)?;
+            Some(Comparison {
+                result: *d,
+                op: *op,
+                form,
+                left,
+                right,
+            })
         }
         _ => None,
     }
@@ -303,16 +279,9 @@ pub fn tested(comparison: &Option<Comparison>, c: Register) -> Option<Comparison
     }
 }
 
-/// Says whether it is a returned result.
-fn is_result(form: Form) -> bool
-    ensures { result ≡ is_result form }
-{
-    matches!(form, Form::InResult)
-}
-
 /// Says whether a pseudo-register is in the result's register already.
 pub fn returned(comparison: &Option<Comparison>, x: Register) -> bool
     ensures { result ≡ returned comparison.now x }
 {
-    matches!(comparison, Some(m) if is_result(m.form) && m.result == x)
+    matches!(comparison, Some(m) if matches!(m.form, Form::InResult) && m.result == x)
 }

@@ -2,11 +2,10 @@
 
 ghost use Rattle.std.specs.Prelude.{◌≡◌, OnOk, OnErr, IfOk, Some};
 ghost use Rattle.mips_emit.specs.Frames.{IsReachable};
-ghost use Rattle.runs.specs.Stores.{places_with};
 ghost use Rattle.mips_emit.specs.Locations.{known_of, known_in, facts_of, no_facts, word_in, deferred_at, deferred_const, deferred_none};
 ghost use Rattle.mips_emit.specs.Locations.{newest, with_fact, written, learned, in_slot, fresh_of};
-ghost use Rattle.mips_emit.specs.Locations.{index_register, index_of, kept_with, kept_without, kept_past};
-ghost use Rattle.mips_emit.specs.Offsets.{sum_offset, or_offset};
+ghost use Rattle.mips_emit.specs.Locations.{index_register, index_of, kept_with, kept_past};
+ghost use Rattle.mips_emit.specs.Offsets.{sum_offset};
 ghost use Rattle.mips_emit.specs.Comparisons.{last_with};
 ghost use Rattle.mips_emit.specs.Locations.{locations, operand, last_operand, FitsSource};
 
@@ -152,16 +151,6 @@ fn pass_kept(kept: &mut Option<Kept>, place: &Option<Home>)
     }
 }
 
-/// Returns the base that is kept once an element is used.
-fn kept_with(global: GlobalNumber, index: Option<Offset>, kept: Option<Kept>) -> Option<Kept>
-    ensures { result ≡ kept_with global index kept }
-{
-    match index {
-        None => kept,
-        Some(index) => Some(Kept { global, index }),
-    }
-}
-
 /// Returns the register of an index that is no known word.
 pub(crate) fn index_register(known: Option<u32>, x: &Source) -> Option<NonzeroReg>
     ensures { result ≡ index_register known x.now }
@@ -179,11 +168,10 @@ fn kept_at(facts: &Knowledge, frame: &Frame, a: GlobalNumber, i: Register) -> Op
 {
     let known = known_word(facts, i);
     let x = operand_by(facts, frame, i, known);
-    kept_with(
-        a,
-        index_with(&facts.offset, index_register(known, &x)),
-        facts.kept,
-    )
+    match index_with(&facts.offset, index_register(known, &x)) {
+        None => facts.kept,
+        Some(index) => Some(Kept { global: a, index }),
+    }
 }
 
 /// Returns what an operator leaves in a home. For an operator that leaves no sum it looks up no fact.

@@ -31,7 +31,7 @@ use crate::operation::{Operand, emit_after, emit_op, operand_with};
 use crate::setting::Setting;
 use crate::transfer::{emit_bring, emit_finish, emit_put, into_of, operand_register};
 use mips_homes::{Frame, Home, SCRATCH_2, is_callee_saved, register};
-use mips_isa::{NonzeroReg, Plain};
+use mips_isa::Plain;
 use rtl::{GlobalNumber, Op, RGlobal, RInst, Register};
 use std::alloc::AllocError;
 use words::Width;

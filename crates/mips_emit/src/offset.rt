@@ -1,7 +1,7 @@
 //! Indices that are the sum of a register and a known word.
 
 ghost use Rattle.std.specs.Prelude.{◌≡◌};
-ghost use Rattle.mips_emit.specs.Offsets.{no_offset, addend, offset_from, offset_of, sum_offset, touches, offset_without, offset_past};
+ghost use Rattle.mips_emit.specs.Offsets.{no_offset, addend, offset_from, offset_of, sum_offset, touches, offset_past};
 ghost use Rattle.mips_emit.specs.Offsets.{offset_in, index_with};
 
 use crate::location::Source;

@@ -4,7 +4,7 @@
 
 ghost use Rattle.std.specs.Prelude.{◌≡◌};
 ghost use Rattle.mips_emit.specs.Locations.{FitsPlace, FitsSource};
-ghost use Rattle.mips_emit.specs.Code.{fetch, operand_register, bring, stays, carry, into, finish, put_at, arrive};
+ghost use Rattle.mips_emit.specs.Code.{fetch, operand_register, bring, carry, into, finish, put_at, arrive};
 ghost use Rattle.mips_emit.specs.Prefixes.{Emits};
 
 use crate::constant::{emit_li, emit_load_word, emit_move, emit_store_word};
