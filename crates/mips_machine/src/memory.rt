@@ -21,27 +21,6 @@ pub struct Memory {
     ghost stack_fits: { 4194304 ≤ vec_capacity stack },
 }
 
-#[inline(always)]
-fn word_of(words: &[u32], place: usize) -> u32
-    requires { place < length words.now }
-    ensures value { result ≡ slice_index words.now place }
-    ensures range { result < 2 ^ 32 }
-{
-    words[place]
-}
-
-/// Returns the word at a place, 0 after those that are held.
-#[inline(always)]
-fn word_or_zero(words: &[u32], place: usize) -> u32
-    ensures value { result ≡ slice_index words.now place }
-    ensures range { result < 2 ^ 32 }
-{
-    match words.get(place) {
-        Some(word) => *word,
-        None => 0,
-    }
-}
-
 /// Returns the place of the stack's word that holds the byte at an address.
 #[inline(always)]
 fn stack_place(a: u32) -> usize
@@ -102,9 +81,9 @@ impl Memory {
         ensures range { result < 2 ^ 32 }
     {
         if STACK_BASE <= a {
-            word_or_zero(&self.stack, stack_place(a))
+            self.stack.get(stack_place(a)).copied().unwrap_or(0)
         } else {
-            word_of(&self.globals, ((a - DATA_BASE) / 4) as usize)
+            self.globals[((a - DATA_BASE) / 4) as usize]
         }
     }
 
