@@ -41,16 +41,6 @@ fn line_start(text: &[u8], at: usize) -> usize {
     start
 }
 
-/// Returns where the line of the offset ends: at its LF or at the text's end.
-fn line_end(text: &[u8], at: usize) -> usize {
-    for (k, byte) in text.iter().enumerate().skip(at) {
-        if *byte == b'\n' {
-            return k;
-        }
-    }
-    text.len()
-}
-
 /// Returns the line and the column of an offset of the text, or of its end.
 pub fn spot_of(text: &[u8], at: usize) -> Spot {
     let before = text.iter().take(at).filter(|byte| **byte == b'\n').count();
@@ -90,16 +80,6 @@ fn quoted_byte(byte: u8, blank: bool) -> u8
     }
 }
 
-/// Returns the part of a line that is shown: from and to these offsets.
-fn window(start: usize, end: usize, at: usize) -> (usize, usize) {
-    if end.saturating_sub(start) <= WIDTH {
-        return (start, end);
-    }
-    let latest = end.saturating_sub(SHOWN);
-    let from = at.saturating_sub(BEFORE).max(start).min(latest);
-    (from, from.saturating_add(SHOWN).min(end))
-}
-
 /// Returns what stands for a part of a line that is left out.
 fn dots(is_cut: bool) -> &'static [u8] {
     if is_cut { DOTS } else { b"" }
@@ -125,8 +105,15 @@ fn quote_of(alloc: Global, text: &[u8], at: usize) -> Result<Vec<u8>, AllocError
         return Ok(quote);
     }
     let start = line_start(text, at);
-    let end = line_end(text, at);
-    let (from, to) = window(start, end, at);
+    let end = (at..text.len()).find(|k| text.get(*k) == Some(&b'\n'));
+    let end = end.unwrap_or(text.len());
+    let (from, to) = if end.saturating_sub(start) <= WIDTH {
+        (start, end)
+    } else {
+        let latest = end.saturating_sub(SHOWN);
+        let from = at.saturating_sub(BEFORE).max(start).min(latest);
+        (from, from.saturating_add(SHOWN).min(end))
+    };
     add(&mut quote, dots(start < from), false)?;
     add(&mut quote, text.get(from..to).unwrap_or(b""), false)?;
     add(&mut quote, dots(to < end), false)?;
@@ -168,32 +155,6 @@ pub(crate) fn file_page(alloc: Global, about: &FileError<'_>) -> Result<Page, Al
     out.end()
 }
 
-/// Returns the line with the place and the message.
-fn head_of(alloc: Global, place: &Place<'_>, at: usize) -> Result<Page, AllocError> {
-    let mut out = Writer::new(alloc);
-    out.within_line(place.source.as_bytes());
-    out.put(&after_name(place.text, at));
-    if let Some(about) = &place.about {
-        out.text(" error: ");
-        out.within_line(about.message.as_slice());
-    }
-    out.text("\n");
-    out.end()
-}
-
-/// Returns the lines with the hint and what else is wrong.
-fn rest_of(alloc: Global, about: &Explanation) -> Result<Page, AllocError> {
-    let mut out = Writer::new(alloc);
-    if let Some(hint) = &about.hint {
-        put_hint(&mut out, hint.as_slice());
-    }
-    if let Some(more) = &about.more {
-        out.within_line(more.as_slice());
-        out.text("\n");
-    }
-    out.end()
-}
-
 /// What is told below a fault: the place and the message, the line with its caret, the hint, and what else is wrong.
 #[derive(Drop)]
 struct Below {
@@ -205,13 +166,27 @@ struct Below {
 fn lines_below(alloc: Global, place: &Place<'_>, at: usize) -> Result<Below, AllocError>
     ensures { IfOk result (λ below. All IsTold below.quote.items) }
 {
-    let head = head_of(alloc, place, at)?;
+    let (mut head, mut rest) = (Writer::new(alloc), Writer::new(alloc));
+    head.within_line(place.source.as_bytes());
+    head.put(&after_name(place.text, at));
+    if let Some(about) = &place.about {
+        head.text(" error: ");
+        head.within_line(about.message.as_slice());
+        if let Some(hint) = &about.hint {
+            put_hint(&mut rest, hint.as_slice());
+        }
+        if let Some(more) = &about.more {
+            rest.within_line(more.as_slice());
+            rest.text("\n");
+        }
+    }
+    head.text("\n");
     let quote = quote_of(alloc, place.text, at)?;
-    let rest = match &place.about {
-        Some(about) => rest_of(alloc, about)?,
-        None => Page::empty(alloc),
-    };
-    Ok(Below { head, quote, rest })
+    Ok(Below {
+        head: head.end()?,
+        quote,
+        rest: rest.end()?,
+    })
 }
 
 /// Tells the line of a fault of a text. If it has a place, below come the place and what is said of it.

@@ -25,25 +25,13 @@ const IMAGE_TIP: &str = "  tip: the image is the second name: mcc build SOURCE I
 /// How clap's text on a build's words goes on after its tip.
 const BUILD_USAGE: &str = "\nUsage: mcc build";
 
-/// Prints clap's text.
+/// Prints the help or the version.
 fn print_help<W: Output>(out: &mut W, error: &Error) -> io::Result<()>
     ensures sent { OnOk result (IsSent W.sends out.new) }
     ensures refused { OnErr result (WasRefused W.refuses out.new) }
 {
     out.put_text(error)?;
     out.send()
-}
-
-/// Prints the help or the version.
-fn show_help<W: Output, E: Complaints>(error: &Error, out: &mut W, err: &mut E) -> u8
-    ensures most { result ≤ 1 }
-    ensures sent { result ≡ 0 → IsSent W.sends out.new }
-    ensures told { result ≡ 1 → TellsLine E.tells err.old (host_fault_text CannotWrite) err.new × WasRefused W.refuses out.new }
-{
-    match print_help(out, error) {
-        Ok(()) => 0,
-        Err(_) => tell_unprinted(err, HostFault::CannotWrite),
-    }
 }
 
 /// Returns clap's text, with a tip of ours if its own misleads.
@@ -57,14 +45,6 @@ fn text_with_tip(alloc: Global, error: &Error) -> Result<String, AllocError> {
         text = text.as_str().replace(alloc, tip.as_str(), ours.as_str())?;
     }
     Ok(text)
-}
-
-/// Tells wrong words; clap's own text if memory runs out to ours.
-fn tell_mistake<E: Complaints>(alloc: Global, error: &Error, err: &mut E) {
-    match text_with_tip(alloc, error) {
-        Ok(text) => err.text(&text),
-        Err(_) => err.text(error),
-    }
 }
 
 /// Tells clap's text: help on standard output, wrong words on standard error. The answer is the exit status.
@@ -84,9 +64,16 @@ pub fn tell_words<W: Output, E: Complaints>(
 {
     match error.kind() {
         ErrorKind::OutOfMemory => tell(err, &HostFault::NoMemory),
-        ErrorKind::DisplayHelp | ErrorKind::DisplayVersion => show_help(error, out, err),
+        ErrorKind::DisplayHelp | ErrorKind::DisplayVersion => match print_help(out, error) {
+            Ok(()) => 0,
+            Err(_) => tell_unprinted(err, HostFault::CannotWrite),
+        },
         _ => {
-            tell_mistake(alloc, error, err);
+            // clap's own text if memory runs out to ours
+            match text_with_tip(alloc, error) {
+                Ok(text) => err.text(&text),
+                Err(_) => err.text(error),
+            }
             2
         }
     }
