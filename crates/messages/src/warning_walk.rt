@@ -46,26 +46,6 @@ struct Walk<'a, 't> {
     is_refused: bool,
 }
 
-/// Returns the value of an expression that is a constant; None if it has no meaning.
-fn constant(e: &TypedExpression) -> Option<u32> {
-    value(e, &[], &[])
-}
-
-/// Returns the sign of an operator that may have no meaning, or may compare comparisons.
-fn mark_of(operator: BinaryOp) -> Option<Mark> {
-    match operator {
-        BinaryOp::Divide => Some(Mark::Slash),
-        BinaryOp::Remainder => Some(Mark::Percent),
-        BinaryOp::ShiftLeft => Some(Mark::LessLess),
-        BinaryOp::ShiftRight => Some(Mark::GreaterGreater),
-        BinaryOp::Less => Some(Mark::LessSign),
-        BinaryOp::Greater => Some(Mark::GreaterSign),
-        BinaryOp::LessOrEqual => Some(Mark::LessEqual),
-        BinaryOp::GreaterOrEqual => Some(Mark::GreaterEqual),
-        _ => None,
-    }
-}
-
 /// Reports whether this is `<`, `>`, `<=` or `>=`.
 fn is_relation(operator: BinaryOp) -> bool {
     matches!(
@@ -79,23 +59,6 @@ fn number(value: u32, integer_type: IntegerType) -> i64 {
     match integer_type {
         IntegerType::SignedInt => i64::from(value.cast_signed()),
         IntegerType::UnsignedInt => i64::from(value),
-    }
-}
-
-/// Reports whether an operator's right operand may be reached.
-fn reaches_right(operator: BinaryOp, left: &TypedExpression) -> bool {
-    match operator {
-        BinaryOp::LogicalAnd => outcomes(left).0,
-        BinaryOp::LogicalOr => outcomes(left).1,
-        _ => true,
-    }
-}
-
-/// Reports whether a test may come out true, and whether it may come out false.
-fn outcomes(test: &TypedExpression) -> (bool, bool) {
-    match constant(test) {
-        Some(value) => (value != 0, value == 0),
-        None => (true, true),
     }
 }
 
@@ -156,32 +119,28 @@ impl<'a, 't> Walk<'a, 't> {
         }
     }
 
-    /// Returns the value of an expression that is a constant and can be reached.
+    /// Returns the value of an expression that can be reached and is a constant; None if it has no meaning.
     fn known(&self, e: &TypedExpression) -> Option<u32> {
-        if self.is_live { constant(e) } else { None }
+        if self.is_live {
+            value(e, &[], &[])
+        } else {
+            None
+        }
     }
 
-    /// Warns of an index that is known to lie outside.
-    fn index(&mut self, name: usize, array: usize, index: &TypedExpression) {
-        let (Some(value), Some(variable)) = (self.known(index), self.variables.get(array)) else {
-            return;
-        };
-        let length = variable.length;
-        if (value as usize) < length {
-            return;
+    /// Returns whether what comes where a test holds can be reached, and what comes where it fails.
+    fn outcomes(&self, test: &TypedExpression) -> (bool, bool) {
+        match self.known(test) {
+            Some(value) => (value != 0, value == 0),
+            None => (self.is_live, self.is_live),
         }
-        let index = number(value, index.integer_type());
-        let shown = self.source.token_text(name);
-        let elements = if length == 1 { "element" } else { "elements" };
-        self.warn(
-            name,
-            &format_args!("the index {index} is outside '{shown}', which has {length} {elements}"),
-        );
     }
 
     /// Warns of a left shift of an int, if that is known.
     fn left_shift(&mut self, sign: usize, left: &TypedExpression, count: u32) {
-        let Some(value) = constant(left) else { return };
+        let Some(value) = self.known(left) else {
+            return
+        };
         if Sign::Signed.left_shift(value, count).is_some() {
             return;
         }
@@ -229,13 +188,22 @@ impl<'a, 't> Walk<'a, 't> {
         }
     }
 
-    /// Goes to the sign after an operator's left operand. Warns if that is a comparison without parentheses, and is compared.
+    /// Goes to the sign after an operator's left operand, if the sign is looked for. Warns if the operand is a comparison without
+    /// parentheses, and is compared.
     fn sign_after(&mut self, left: &TypedExpression, operator: BinaryOp) -> usize {
         let before = self.sign;
-        let sign = match mark_of(operator) {
-            None => self.cursor,
-            mark => self.next(mark),
+        let mark = match operator {
+            BinaryOp::Divide => Mark::Slash,
+            BinaryOp::Remainder => Mark::Percent,
+            BinaryOp::ShiftLeft => Mark::LessLess,
+            BinaryOp::ShiftRight => Mark::GreaterGreater,
+            BinaryOp::Less => Mark::LessSign,
+            BinaryOp::Greater => Mark::GreaterSign,
+            BinaryOp::LessOrEqual => Mark::LessEqual,
+            BinaryOp::GreaterOrEqual => Mark::GreaterEqual,
+            _ => return self.cursor,
         };
+        let sign = self.next(Some(mark));
         if is_relation(operator)
             && matches!(left, TypedExpression::Binary(inner, _, _) if is_relation(*inner))
             && self.chains(before, sign)
@@ -266,14 +234,19 @@ impl<'a, 't> Walk<'a, 't> {
                 let (left, right) = &**operands;
                 self.expression(left);
                 let sign = self.sign_after(left, *operator);
-                self.expression_if(reaches_right(*operator, left), right);
+                let is_reached = match operator {
+                    BinaryOp::LogicalAnd => self.outcomes(left).0,
+                    BinaryOp::LogicalOr => self.outcomes(left).1,
+                    _ => true,
+                };
+                self.expression_if(is_reached, right);
                 self.operation(sign, *operator, left, right);
                 self.sign = sign;
             }
             TypedExpression::Conditional(_, parts) => {
                 let (test, first, second) = &**parts;
                 self.expression(test);
-                let (can_hold, can_fail) = outcomes(test);
+                let (can_hold, can_fail) = self.outcomes(test);
                 self.expression_if(can_hold, first);
                 self.expression_if(can_fail, second);
             }
@@ -289,12 +262,25 @@ impl<'a, 't> Walk<'a, 't> {
         self.is_live = is_live;
     }
 
-    /// Walks through an array's name and an index of it.
+    /// Walks through an array's name and an index of it. Warns of one that is known to lie outside.
     #[cycle(expressions)]
     fn element(&mut self, array: usize, index: &TypedExpression) {
         let name = self.next_name();
         self.expression(index);
-        self.index(name, array, index);
+        let (Some(value), Some(variable)) = (self.known(index), self.variables.get(array)) else {
+            return;
+        };
+        let length = variable.length;
+        if (value as usize) < length {
+            return;
+        }
+        let index = number(value, index.integer_type());
+        let shown = self.source.token_text(name);
+        let elements = if length == 1 { "element" } else { "elements" };
+        self.warn(
+            name,
+            &format_args!("the index {index} is outside '{shown}', which has {length} {elements}"),
+        );
     }
 
     /// Walks through a call, after which nothing is reached where it never ends.
@@ -306,13 +292,6 @@ impl<'a, 't> Walk<'a, 't> {
         if self.endless.get(function) == Some(&true) {
             self.is_live = false;
         }
-    }
-
-    /// Walks through a test; the answer is whether what comes where it holds can be reached, and what comes where it fails.
-    fn test(&mut self, test: &TypedExpression) -> (bool, bool) {
-        self.expression(test);
-        let (can_hold, can_fail) = outcomes(test);
-        (self.is_live && can_hold, self.is_live && can_fail)
     }
 
     /// Walks through a statement without parts that are statements.
@@ -361,7 +340,8 @@ impl<'a, 't> Walk<'a, 't> {
         match s {
             TypedStatement::Block(all) => self.statements(all),
             TypedStatement::If(test, first, second) => {
-                let (holds, fails) = self.test(test);
+                self.expression(test);
+                let (holds, fails) = self.outcomes(test);
                 self.is_live = holds;
                 self.statement(first);
                 let goes_on = mem::replace(&mut self.is_live, fails);
@@ -369,7 +349,8 @@ impl<'a, 't> Walk<'a, 't> {
                 self.is_live = self.is_live || goes_on;
             }
             TypedStatement::Loop(test, last, body) => {
-                let (holds, fails) = self.test(test);
+                self.expression(test);
+                let (holds, fails) = self.outcomes(test);
                 self.is_live = holds;
                 self.statement(last);
                 self.is_live = holds;
@@ -389,8 +370,8 @@ impl<'a, 't> Walk<'a, 't> {
         }
     }
 
-    /// Begins at the brace of a function, whose parameters are assigned.
-    fn enter(&mut self, name: usize, typed: &Function) {
+    /// Walks through a function, the token of whose name this is.
+    fn function(&mut self, name: usize, typed: &Function) {
         self.cursor = name;
         self.next(Some(Mark::LeftBrace));
         self.locals.clear();
@@ -403,23 +384,13 @@ impl<'a, 't> Walk<'a, 't> {
             self.is_refused = self.is_refused || self.locals.push(local).is_err();
         }
         (self.is_live, self.has_break, self.has_return) = (true, false, false);
-    }
-
-    /// Warns of each local that is read and never assigned.
-    fn unset_locals(&mut self) {
+        self.statements(&typed.body);
         for k in 0..self.locals.len() {
-            if let Some(Local::Read(name)) = self.locals.get(k).copied() {
-                let shown = self.source.token_text(name);
-                self.warn(name, &format_args!("'{shown}' is read and never assigned"));
+            if let Some(Local::Read(local)) = self.locals.get(k).copied() {
+                let shown = self.source.token_text(local);
+                self.warn(local, &format_args!("'{shown}' is read and never assigned"));
             }
         }
-    }
-
-    /// Walks through a function, the token of whose name this is.
-    fn function(&mut self, name: usize, typed: &Function) {
-        self.enter(name, typed);
-        self.statements(&typed.body);
-        self.unset_locals();
         let is_endless = !self.is_live && !self.has_return;
         self.is_refused = self.is_refused || self.endless.push(is_endless).is_err();
         if self.is_live {
