@@ -4,33 +4,28 @@ use crate::source::{Source, TYPES, after, before};
 use c_tokens::{Mark, Token};
 use text::Said;
 
-/// Reports whether a function's head stands at a token that can't stand. The token is the `(` of `type name (`, before a type or `)`, or the
-/// `void` that such a head begins with.
-fn is_at_head(source: &Source<'_>, k: usize) -> bool {
+/// Names the brace that isn't closed where a function begins inside of another; false if that isn't so.
+pub(crate) fn hint_brace(said: &mut Said, source: &Source<'_>, k: usize) -> bool {
+    // the token is the `(` of `type name (`, before a type or `)`, or the `void` that such a head begins with
     let name = if source.is(k, Mark::Void) {
         after(k, 1)
     } else {
         before(k, 1)
     };
-    source.is_name(name)
+    let is_at_head = source.is_name(name)
         && source.is_one(before(name, 1), TYPES)
         && source.is(after(name, 1), Mark::LeftParen)
-        && (source.is_one(after(name, 2), TYPES) || source.is(after(name, 2), Mark::RightParen))
-}
-
-/// Names the brace that isn't closed where a function begins inside of another; false if that isn't so.
-fn hint_brace(said: &mut Said, source: &Source<'_>, k: usize) -> bool {
-    let Some(brace) = source.open_before(k, Mark::LeftBrace) else {
-        return false;
-    };
-    if !is_at_head(source, k) {
-        return false;
+        && (source.is_one(after(name, 2), TYPES) || source.is(after(name, 2), Mark::RightParen));
+    match source.open_before(k, Mark::LeftBrace) {
+        Some(brace) if is_at_head => {
+            let line = source.spot(brace).line;
+            said.hint("functions don't stand in functions: ");
+            said.hint
+                .put(&format_args!("the '{{' of line {line} isn't closed"));
+            true
+        }
+        _ => false,
     }
-    let line = source.spot(brace).line;
-    said.hint("functions don't stand in functions: ");
-    said.hint
-        .put(&format_args!("the '{{' of line {line} isn't closed"));
-    true
 }
 
 /// What a statement can begin with, or a block end.
@@ -38,16 +33,17 @@ fn hint_brace(said: &mut Said, source: &Source<'_>, k: usize) -> bool {
 const BEGINNINGS: &[Mark] =
     &[Mark::LeftBrace, Mark::RightBrace, Mark::If, Mark::Else, Mark::While, Mark::For];
 
-/// Reports whether a statement or a declaration can begin with a token, or a block end.
-fn can_begin(source: &Source<'_>, k: usize) -> bool {
-    source.is_one(k, TYPES)
-        || source.is_one(k, BEGINNINGS)
-        || matches!(source.token(k), Some(Token::Name(_) | Token::Jump(_, _)))
-}
-
 /// Names the line that lacks a `;` at its end; false if that isn't so.
-fn hint_semicolon(said: &mut Said, source: &Source<'_>, k: usize, expected: &[&str]) -> bool {
-    if k == 0 || !expected.contains(&"';'") || !can_begin(source, k) {
+pub(crate) fn hint_semicolon(
+    said: &mut Said,
+    source: &Source<'_>,
+    k: usize,
+    expected: &[&str],
+) -> bool {
+    let can_begin = source.is_one(k, TYPES)
+        || source.is_one(k, BEGINNINGS)
+        || matches!(source.token(k), Some(Token::Name(_) | Token::Jump(_, _)));
+    if k == 0 || !expected.contains(&"';'") || !can_begin {
         return false;
     }
     let line = source.spot(before(k, 1)).line;
@@ -56,14 +52,4 @@ fn hint_semicolon(said: &mut Said, source: &Source<'_>, k: usize, expected: &[&s
     }
     said.hint.put(&format_args!("a ';' is missing at the end of line {line}"));
     true
-}
-
-/// Says what is missing before a token that can't stand; false if nothing is known.
-pub(crate) fn hint_missing(
-    said: &mut Said,
-    source: &Source<'_>,
-    k: usize,
-    expected: &[&str],
-) -> bool {
-    hint_brace(said, source, k) || hint_semicolon(said, source, k, expected)
 }

@@ -1,7 +1,7 @@
 //! What is said of the first token that can't stand.
 
 use crate::headers::{NO_CASTS, type_hint};
-use crate::missing::hint_missing;
+use crate::missing::{hint_brace, hint_semicolon};
 use crate::source::{Source, TYPES, before};
 use Fact::{
     AfterAssign, AfterCall, AfterDeclared, AfterName, AfterNoOperand, AfterOperand, AfterUnknown,
@@ -140,14 +140,6 @@ struct Found<'s, 't> {
 }
 
 impl<'s, 't> Found<'s, 't> {
-    fn new(source: &'s Source<'t>, token: usize) -> Found<'s, 't> {
-        Found {
-            source,
-            token,
-            first: source.first_of(token),
-        }
-    }
-
     /// Reports whether an operand ends just before it.
     fn is_after_operand(&self) -> bool {
         match self.source.token(before(self.token, 1)) {
@@ -155,21 +147,6 @@ impl<'s, 't> Found<'s, 't> {
             Some(Token::The(mark)) => mark == Mark::RightParen || mark == Mark::RightBracket,
             _ => false,
         }
-    }
-
-    /// Reports whether a call ends just before it.
-    fn is_after_call(&self) -> bool {
-        let last = before(self.token, 1);
-        let source = self.source;
-        match source.open_before(last, Mark::LeftParen) {
-            Some(open) => source.is_name(before(open, 1)) && source.is(last, Mark::RightParen),
-            None => false,
-        }
-    }
-
-    /// Reports whether an `=` stands before it in its declaration.
-    fn is_after_assign(&self) -> bool {
-        (self.first..self.token).any(|k| self.source.is(k, Mark::Assign))
     }
 
     /// Reports whether it stands in brackets that this one opens.
@@ -180,6 +157,7 @@ impl<'s, 't> Found<'s, 't> {
     fn holds(&self, fact: &Fact) -> bool {
         let source = self.source;
         let last = before(self.token, 1);
+        let first = source.token(self.first);
         match fact {
             Is(mark) => source.is(self.token, *mark),
             IsName => source.is_name(self.token),
@@ -191,20 +169,20 @@ impl<'s, 't> Found<'s, 't> {
             AfterName => source.is_name(last),
             AfterUnknown => source.declaration_of(source.spelling(last)).is_none(),
             AfterDeclared => source.is_declared(last),
-            AfterCall => self.is_after_call(),
+            AfterCall => {
+                source.is(last, Mark::RightParen)
+                    && source
+                        .open_before(last, Mark::LeftParen)
+                        .is_some_and(|open| source.is_name(before(open, 1)))
+            }
             AfterOperand => self.is_after_operand(),
             AfterNoOperand => !self.is_after_operand(),
-            AfterAssign => self.is_after_assign(),
+            AfterAssign => (self.first..self.token).any(|k| source.is(k, Mark::Assign)),
             IsFirst => self.token == self.first,
             IsSecond => last == self.first,
             BeginsWithName => source.is_name(self.first),
             BeginsWithType => source.is_one(self.first, TYPES),
-            BeginsWithReturn => {
-                matches!(
-                    source.token(self.first),
-                    Some(Token::Jump(JumpWord::Return, _))
-                )
-            }
+            BeginsWithReturn => matches!(first, Some(Token::Jump(JumpWord::Return, _))),
             InFunction => self.is_in(Mark::LeftBrace),
             AtFileScope => !self.is_in(Mark::LeftBrace),
             InParentheses => self.is_in(Mark::LeftParen),
@@ -237,48 +215,49 @@ fn hint_by_facts(found: &Found<'_, '_>) -> &'static str {
     }
 }
 
-/// Writes words in one list, as `a, b or c`.
-fn say_list(said: &mut Said, words: &[&str]) {
-    for (n, word) in words.iter().enumerate() {
+/// Says what can stand in a token's place, as `a, b or c`, or that this token can't.
+fn say_expected(said: &mut Said, source: &Source<'_>, k: usize, expected: &[&str]) {
+    let is_end = k >= source.count();
+    let found = source.token_text(k);
+    if expected.is_empty() && is_end {
+        return said.say("the text ends too early");
+    }
+    if expected.is_empty() {
+        return said.say_name(found, "can't stand here");
+    }
+    said.say("expected ");
+    for (n, word) in expected.iter().enumerate() {
         if n > 0 {
-            said.say(if n + 1 == words.len() { " or " } else { ", " });
+            said.say(if n + 1 == expected.len() {
+                " or "
+            } else {
+                ", "
+            });
         }
         said.say(*word);
     }
-}
-
-/// Says what is wrong at the end of a text: which brace isn't closed.
-fn say_end(said: &mut Said, source: &Source<'_>, expected: &[&str]) {
-    if expected.is_empty() {
-        said.say("the text ends too early");
-    } else {
-        said.say("expected ");
-        say_list(said, expected);
+    if is_end {
         said.say(" at the text's end");
-    }
-    if let Some(open) = source.open_before(source.count(), Mark::LeftBrace) {
-        said.hint("the '{' of ");
-        source.put_spot(&mut said.hint, open);
-        said.hint(" isn't closed");
+    } else {
+        said.message.put(&format_args!(" before '{found}'"));
     }
 }
 
 /// Says what is wrong with the first token that can't stand, or of a text that ends too early.
 pub(crate) fn say_syntax(said: &mut Said, source: &Source<'_>, k: usize, expected: &[&str]) {
+    say_expected(said, source, k, expected);
     if k >= source.count() {
-        return say_end(said, source, expected);
+        if let Some(open) = source.open_before(source.count(), Mark::LeftBrace) {
+            said.hint("the '{' of ");
+            source.put_spot(&mut said.hint, open);
+            said.hint(" isn't closed");
+        }
+    } else if !hint_brace(said, source, k) && !hint_semicolon(said, source, k, expected) {
+        let by_facts = hint_by_facts(&Found {
+            source,
+            token: k,
+            first: source.first_of(k),
+        });
+        said.hint(type_hint(source, k).unwrap_or(by_facts));
     }
-    let found = source.token_text(k);
-    if expected.is_empty() {
-        said.say_name(found, "can't stand here");
-    } else {
-        said.say("expected ");
-        say_list(said, expected);
-        said.message.put(&format_args!(" before '{found}'"));
-    }
-    if hint_missing(said, source, k, expected) {
-        return;
-    }
-    let by_facts = hint_by_facts(&Found::new(source, k));
-    said.hint(type_hint(source, k).unwrap_or(by_facts));
 }
