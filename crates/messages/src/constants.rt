@@ -28,44 +28,22 @@ fn has_only(number: &[u8], bytes: &[u8]) -> bool {
     number.iter().all(|byte| bytes.contains(byte))
 }
 
-/// Returns why digits are no constant.
-fn digits_reason(digits: &[u8]) -> &'static str {
-    if has_only(digits, b"0123456789abcdefABCDEFuU") {
-        "an unsigned goes up to 4294967295"
-    } else {
-        "digits come first, and u may follow"
-    }
-}
-
-/// Reports whether a number has a point or an exponent.
-fn is_floating(number: &[u8]) -> bool {
-    match number {
-        [b'0', b'x' | b'X', ..] => has(number, b".pP"),
-        _ => has(number, b".pPeE"),
-    }
-}
-
 /// Returns why a number is no constant, and what to write; empty where nothing helps.
 #[rattlefmt::skip]
 fn reason(number: &[u8]) -> (&'static str, &'static str) {
+    let (floating, digits): (&[u8], &[u8]) = match number {
+        [b'0', b'x' | b'X', digits @ ..] => (b".pP", digits),
+        _ => (b".pPeE", number),
+    };
     match number {
-        _ if is_floating(number) => ("floating point isn't in this subset of C", "write a whole number"),
+        _ if has(number, floating) => ("floating point isn't in this subset of C", "write a whole number"),
         _ if has(number, b"lL") => ("int and unsigned are the only types", "leave l and ll out: u is the only suffix"),
-        [b'0', b'x' | b'X', digits @ ..] => (digits_reason(digits), ""),
         [b'0', b'b' | b'B', ..] => ("a number is decimal, octal or hexadecimal", "write it as 0x.."),
         [b'0', ..] if has(number, b"89") && has_only(number, b"0123456789") =>
             ("a number that begins with 0 is octal", "leave the 0 at its front out"),
         [b'1'..=b'9', ..] if shown_text(number).parse::<u32>().is_ok() => ("an int goes up to 2147483647, append u", ""),
-        _ => (digits_reason(number), ""),
-    }
-}
-
-/// Returns what is written in place of the least int; at file scope a minus and a constant are all that can stand.
-fn least_int_hint(source: &Source<'_>, k: usize) -> &'static str {
-    if source.open_before(k, Mark::LeftBrace).is_none() {
-        "write 0x80000000, which becomes -2147483648 as an int"
-    } else {
-        "write -2147483647 - 1"
+        _ if has_only(digits, b"0123456789abcdefABCDEFuU") => ("an unsigned goes up to 4294967295", ""),
+        _ => ("digits come first, and u may follow", ""),
     }
 }
 
@@ -74,10 +52,16 @@ pub(crate) fn say_constant(said: &mut Said, source: &Source<'_>, at: usize) {
     let number = number(back(source.text, at));
     let k = source.index_of(at);
     let is_least = number == b"2147483648".as_slice() && source.is(before(k, 1), Mark::Minus);
-    let (why, hint) = if is_least {
-        ("an int goes up to 2147483647", least_int_hint(source, k))
-    } else {
+    let (why, hint) = if !is_least {
         reason(number)
+    } else if source.open_before(k, Mark::LeftBrace).is_some() {
+        ("an int goes up to 2147483647", "write -2147483647 - 1")
+    } else {
+        // at file scope a minus and a constant are all that can stand
+        (
+            "an int goes up to 2147483647",
+            "write 0x80000000, which becomes -2147483648 as an int",
+        )
     };
     let number = shown_text(number);
     said.message

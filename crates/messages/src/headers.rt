@@ -42,18 +42,14 @@ pub(crate) fn written_for(name: &[u8]) -> Option<&'static str> {
     told_of(TYPES, name).or(told_of(CONSTANTS, name))
 }
 
-/// Reports whether a token stands after a cast to a type of these headers.
-fn is_after_cast(source: &Source<'_>, k: usize) -> bool {
-    let name = source.spelling(before(k, 2));
-    source.is(before(k, 1), Mark::RightParen)
-        && source.is(before(k, 3), Mark::LeftParen)
-        && told_of(TYPES, name).is_some()
-        && source.declaration_of(name).is_none()
-}
-
 /// Returns what to write in place of a type of these headers, or of a cast to one. A token or the one before has to name it.
 pub(crate) fn type_hint(source: &Source<'_>, k: usize) -> Option<&'static str> {
-    if is_after_cast(source, k) {
+    let cast = source.spelling(before(k, 2));
+    let is_after_cast = source.is(before(k, 1), Mark::RightParen)
+        && source.is(before(k, 3), Mark::LeftParen)
+        && told_of(TYPES, cast).is_some()
+        && source.declaration_of(cast).is_none();
+    if is_after_cast {
         return Some(NO_CASTS);
     }
     for token in [k, before(k, 1)] {

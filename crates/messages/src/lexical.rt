@@ -3,6 +3,8 @@
 use crate::source::{Source, Told, back, before, front, shown_text, spelled_at, told_of};
 use text::Said;
 
+const BYTE_ORDER_MARK: &str = "the text begins with a byte order mark";
+
 const NO_DIRECTIVES: &str = "there is no preprocessor: leave the line out";
 
 const NO_FLOATING: &str = "floating point isn't in this subset of C: write int or unsigned";
@@ -39,28 +41,22 @@ const DIRECTIVES: &[Told] = &[
 /// What is said of a word or a sign that C has and the subset leaves out.
 const LEFT_OUT_HERE: &str = "isn't in this subset of C";
 
-/// Returns what a text is that begins with a byte order mark, and what to do; None if it doesn't.
-fn mark_hint(text: &[u8]) -> Option<&'static str> {
-    if text.starts_with(b"\xEF\xBB\xBF") {
-        Some("save the file as UTF-8 without it")
-    } else if text.starts_with(b"\xFF\xFE") || text.starts_with(b"\xFE\xFF") {
-        Some("the file is UTF-16: save it as ASCII")
-    } else {
-        None
-    }
-}
-
 /// Says what is wrong with a byte that no text may have.
 pub(crate) fn say_byte(said: &mut Said, text: &[u8], at: usize) {
-    if at == 0
-        && let Some(hint) = mark_hint(text)
-    {
-        return said.say_both("the text begins with a byte order mark", hint);
+    match (at, text) {
+        (0, [0xEF, 0xBB, 0xBF, ..]) => {
+            said.say_both(BYTE_ORDER_MARK, "save the file as UTF-8 without it");
+        }
+        (0, [0xFF, 0xFE, ..] | [0xFE, 0xFF, ..]) => {
+            said.say_both(BYTE_ORDER_MARK, "the file is UTF-16: save it as ASCII");
+        }
+        _ => {
+            let byte = text.get(at).copied().unwrap_or(0);
+            said.message
+                .put(&format_args!("the byte {byte} can't stand in a text"));
+            said.hint("write ASCII alone: bytes 32 to 126, tab and the ends of lines");
+        }
     }
-    let byte = text.get(at).copied().unwrap_or(0);
-    said.message
-        .put(&format_args!("the byte {byte} can't stand in a text"));
-    said.hint("write ASCII alone: bytes 32 to 126, tab and the ends of lines");
 }
 
 /// Returns the word or the sign after blanks.
@@ -85,38 +81,23 @@ fn counted_name<'t>(source: &Source<'t>, at: usize) -> &'t str {
     }
 }
 
-/// Says what to do about what stands after `#`.
-fn say_directive(said: &mut Said, text: &[u8], at: usize) {
-    let word = after_blanks(text, at.saturating_add(1));
-    said.message
-        .put(&format_args!("'#{}' {LEFT_OUT_HERE}", shown_text(word)));
-    said.hint(told_of(DIRECTIVES, word).unwrap_or(NO_DIRECTIVES));
-}
-
-/// Returns the number of a character after a backslash (C99 5.2.2, 6.4.4.4).
-fn escaped(letter: u8) -> Option<u8> {
-    match letter {
-        b'n' => Some(10),
-        b't' => Some(9),
-        b'0' => Some(0),
-        b'r' => Some(13),
-        b'a' => Some(7),
-        b'b' => Some(8),
-        b'f' => Some(12),
-        b'v' => Some(11),
-        b'\\' | b'\'' | b'"' => Some(letter),
-        _ => None,
-    }
-}
-
+/// Says what to write in place of a character (C99 5.2.2, 6.4.4.4).
 fn say_quoted(said: &mut Said, text: &[u8], at: usize) {
     said.say_both(
         "a character constant isn't in this subset of C",
         "write the character's number",
     );
     let number = match back(text, at.saturating_add(1)) {
-        [b'\\'] | [] => None,
-        [b'\\', letter, ..] => escaped(*letter),
+        [b'\\', b'n', ..] => Some(10),
+        [b'\\', b't', ..] => Some(9),
+        [b'\\', b'0', ..] => Some(0),
+        [b'\\', b'r', ..] => Some(13),
+        [b'\\', b'a', ..] => Some(7),
+        [b'\\', b'b', ..] => Some(8),
+        [b'\\', b'f', ..] => Some(12),
+        [b'\\', b'v', ..] => Some(11),
+        [b'\\', letter @ (b'\\' | b'\'' | b'"'), ..] => Some(*letter),
+        [b'\\', ..] | [] => None,
         [letter, ..] => Some(*letter),
     };
     if let Some(number) = number {
@@ -141,34 +122,27 @@ fn is_in_comment(source: &Source<'_>, at: usize) -> bool {
     is_inside
 }
 
-/// Returns what is written in the place of a sign that the subset leaves out; of a point it depends on what follows.
-fn left_out(text: &[u8], at: usize) -> Option<&'static str> {
-    match back(text, at) {
-        [b'.', b'0'..=b'9', ..] => Some(NO_FLOATING),
-        rest => told_of(LEFT_OUT, spelled_at(rest, 0)),
-    }
-}
-
-/// Returns the operator and the operand that stand for `++`, `--` or an assignment with an operator.
-fn compound<'t>(sign: &'t [u8]) -> Option<(&'t [u8], &'static str)> {
-    let operator = front(sign, sign.len().saturating_sub(1));
-    match sign {
-        b"++" | b"--" => Some((operator, " 1")),
-        b"<<=" | b">>=" => Some((operator, " ..")),
-        [b'+' | b'-' | b'*' | b'/' | b'%' | b'&' | b'|' | b'^', b'='] => Some((operator, " ..")),
-        _ => None,
-    }
-}
-
 /// Says what is wrong with a sign or a word.
 fn say_sign(said: &mut Said, source: &Source<'_>, at: usize) {
     let sign = spelled_at(source.text, at);
-    if let Some((operator, operand)) = compound(sign) {
+    // what follows the operator that stands for `++`, `--` or an assignment
+    let operand = match sign {
+        b"++" | b"--" => Some(" 1"),
+        b"<<=" | b">>=" => Some(" .."),
+        [b'+' | b'-' | b'*' | b'/' | b'%' | b'&' | b'|' | b'^', b'='] => Some(" .."),
+        _ => None,
+    };
+    let left_out = match back(source.text, at) {
+        [b'.', b'0'..=b'9', ..] => Some(NO_FLOATING),
+        _ => told_of(LEFT_OUT, sign),
+    };
+    if let Some(operand) = operand {
         said.say_name(shown_text(sign), LEFT_OUT_HERE);
-        let (name, operator) = (counted_name(source, at), shown_text(operator));
+        let operator = shown_text(front(sign, sign.len().saturating_sub(1)));
+        let name = counted_name(source, at);
         said.hint
             .put(&format_args!("write {name} = {name} {operator}{operand}"));
-    } else if let Some(hint) = left_out(source.text, at) {
+    } else if let Some(hint) = left_out {
         said.say_name(shown_text(sign), LEFT_OUT_HERE);
         said.hint(hint);
     } else {
@@ -185,7 +159,12 @@ pub(crate) fn say_token(said: &mut Said, source: &Source<'_>, at: usize) {
             "a string isn't in this subset of C",
             "out(e); prints a word; bytes stand in an array of unsigned char at file scope",
         ),
-        [b'#'] => say_directive(said, source.text, at),
+        [b'#'] => {
+            let word = after_blanks(source.text, at.saturating_add(1));
+            said.message
+                .put(&format_args!("'#{}' {LEFT_OUT_HERE}", shown_text(word)));
+            said.hint(told_of(DIRECTIVES, word).unwrap_or(NO_DIRECTIVES));
+        }
         [b'\''] => say_quoted(said, source.text, at),
         [b'\\'] | [b'?', b'?'] if is_in_comment(source, at) => {
             said.say_name(shown_text(sign), "can't stand in a comment");

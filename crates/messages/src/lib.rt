@@ -43,30 +43,6 @@ use std::alloc::{AllocError, Global};
 use text::{Explanation, Said};
 pub use warnings::{Warning, warnings_of};
 
-fn say_front(
-    alloc: Global,
-    said: &mut Said,
-    source: &Source<'_>,
-    fault: FrontFault,
-) -> Result<(), AllocError> {
-    match fault.kind {
-        FrontFaultKind::Byte => say_byte(said, source.text, fault.at),
-        FrontFaultKind::Token => {
-            say_token(said, source, fault.at);
-            return say_more(alloc, said, source.text, fault.at);
-        }
-        FrontFaultKind::Syntax => {
-            let k = source.index_of(fault.at);
-            let expected = expected_words(alloc, source, k)?;
-            say_syntax(said, source, k, expected.as_slice());
-        }
-        FrontFaultKind::Constant => say_constant(said, source, fault.at),
-        FrontFaultKind::Size => say_size(said, source, fault.at),
-        FrontFaultKind::NoMemory => said.say("memory was refused"),
-    }
-    Ok(())
-}
-
 /// Returns what is wrong with a text that has this fault, and what to write in its place. Like the reading of the text it descends into it:
 /// run it on a thread with a large stack where the text may be hostile.
 pub fn explain(alloc: Global, text: &[u8], fault: SourceFault) -> Result<Explanation, AllocError>
@@ -75,7 +51,21 @@ pub fn explain(alloc: Global, text: &[u8], fault: SourceFault) -> Result<Explana
     let source = Source::read(alloc, text)?;
     let mut said = Said::new(alloc);
     match fault {
-        SourceFault::Front(fault) => say_front(alloc, &mut said, &source, fault)?,
+        SourceFault::Front(FrontFault { kind, at }) => match kind {
+            FrontFaultKind::Byte => say_byte(&mut said, source.text, at),
+            FrontFaultKind::Token => {
+                say_token(&mut said, &source, at);
+                say_more(alloc, &mut said, source.text, at)?;
+            }
+            FrontFaultKind::Syntax => {
+                let k = source.index_of(at);
+                let expected = expected_words(alloc, &source, k)?;
+                say_syntax(&mut said, &source, k, expected.as_slice());
+            }
+            FrontFaultKind::Constant => say_constant(&mut said, &source, at),
+            FrontFaultKind::Size => say_size(&mut said, &source, at),
+            FrontFaultKind::NoMemory => said.say("memory was refused"),
+        },
         SourceFault::Types(fault) => say_types(alloc, &mut said, &source, fault)?,
     }
     said.end(alloc)
