@@ -58,26 +58,17 @@ pub(crate) fn is_word(byte: u8) -> bool {
     byte.is_ascii_alphanumeric() || byte == b'_'
 }
 
-/// Returns how many bytes of a word stand at the front.
-fn word_length(text: &[u8]) -> usize {
-    let length = text.iter().position(|byte| !is_word(*byte));
-    length.unwrap_or(text.len())
-}
-
-/// Returns how many bytes the longest sign at the front has.
-fn sign_length(text: &[u8]) -> usize {
-    let sign = LONG_SIGNS.iter().find(|sign| text.starts_with(**sign));
-    sign.map_or(1, |sign| sign.len())
-}
-
 /// Returns the word or the longest sign at an offset.
 pub(crate) fn spelled_at<'t>(text: &'t [u8], at: usize) -> &'t [u8] {
     let rest = back(text, at);
-    let length = match word_length(rest) {
-        0 => sign_length(rest),
-        length => length,
-    };
-    front(rest, length)
+    match rest.iter().position(|byte| !is_word(*byte)) {
+        None => rest,
+        Some(0) => {
+            let sign = LONG_SIGNS.iter().find(|sign| rest.starts_with(**sign));
+            front(rest, sign.map_or(1, |sign| sign.len()))
+        }
+        Some(length) => front(rest, length),
+    }
 }
 
 /// The tokens of a text, or those before its first refusal.

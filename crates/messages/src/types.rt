@@ -1,7 +1,7 @@
 //! What is said of the faults of a program: names used as what they aren't, and what is missing or too much.
 
 use crate::headers::written_for;
-use crate::names::{in_sight, last_function, names_before};
+use crate::names::{last_function, names_before};
 use crate::near_names::nearest;
 use crate::source::{Source, Told, after, before, told_of};
 use c_statements::{TypeFault, TypeFaultKind};
@@ -24,17 +24,6 @@ const LIBRARY: &[Told] = &[
 #[rattlefmt::skip]
 const TAKEN: &[&str] = &["no arguments", "1 argument", "2 arguments", "3 arguments", "4 arguments"];
 
-/// Says why a name that is declared elsewhere isn't in sight at a token.
-fn hint_declared(said: &mut Said, source: &Source<'_>, k: usize, other: usize) {
-    let (shown, line) = (source.token_text(k), source.spot(other).line);
-    said.hint.put(&format_args!("'{shown}' of line {line}"));
-    said.hint(if other < k {
-        " ends with its block: declare it further out"
-    } else {
-        " comes too late: put it before its first use"
-    });
-}
-
 /// Says what is wrong with a name that isn't in sight, given the names that are.
 fn say_undeclared(
     alloc: Global,
@@ -43,10 +32,16 @@ fn say_undeclared(
     names: &[usize],
     k: usize,
 ) -> Result<(), AllocError> {
-    said.say_name(source.token_text(k), "isn't declared");
-    let name = source.spelling(k);
+    let (shown, name) = (source.token_text(k), source.spelling(k));
+    said.say_name(shown, "isn't declared");
     if let Some(other) = source.declaration_of(name) {
-        hint_declared(said, source, k, other);
+        let line = source.spot(other).line;
+        said.hint.put(&format_args!("'{shown}' of line {line}"));
+        said.hint(if other < k {
+            " ends with its block: declare it further out"
+        } else {
+            " comes too late: put it before its first use"
+        });
     } else if let Some(told) = told_of(LIBRARY, name).or(written_for(name)) {
         said.hint(told);
     } else if let Some(near) = nearest(alloc, source, names, k)? {
@@ -80,28 +75,24 @@ fn say_return(said: &mut Said, source: &Source<'_>, k: usize) {
     }
 }
 
-/// Says what is wrong with the use of a function's name, by what stands after it.
-fn say_function(said: &mut Said, name: &str, after: Option<Mark>) {
-    match after {
-        Some(Mark::LeftParen) => {
+/// Says what is wrong with the use of the name of a function, or of a variable or an array, by what stands after it.
+fn say_use(said: &mut Said, name: &str, is_function: bool, after: Option<Mark>) {
+    match (after, is_function) {
+        (Some(Mark::LeftParen), true) => {
             said.say_name(name, "is void: its call has no value");
             said.hint.put(&format_args!("call it alone: {name}(..);"));
         }
-        Some(Mark::LeftBracket) => said.say_name(name, "is a function: it has no elements"),
-        Some(Mark::Assign) => said.say_name(name, "is a function: it can't be assigned to"),
-        _ => {
+        (Some(Mark::LeftBracket), true) => said.say_name(name, "is a function: it has no elements"),
+        (Some(Mark::Assign), true) => said.say_name(name, "is a function: it can't be assigned to"),
+        (_, true) => {
             said.say_name(name, "is a function: call it");
             said.hint("a call stands alone or behind 'name =': int r; r = f(1); out(r);");
         }
-    }
-}
-
-/// Says what is wrong with the use of a variable's or an array's name, by what stands after it.
-fn say_variable(said: &mut Said, name: &str, after: Option<Mark>) {
-    match after {
-        Some(Mark::LeftParen) => said.say_name(name, "is no function: it can't be called"),
-        Some(Mark::LeftBracket) => said.say_name(name, "is no array: it has no elements"),
-        _ => {
+        (Some(Mark::LeftParen), false) => {
+            said.say_name(name, "is no function: it can't be called");
+        }
+        (Some(Mark::LeftBracket), false) => said.say_name(name, "is no array: it has no elements"),
+        (_, false) => {
             said.say_name(name, "is an array: name one of its elements");
             said.hint
                 .put(&format_args!("write {name}[0] or another index"));
@@ -118,10 +109,9 @@ fn say_other_kind(said: &mut Said, source: &Source<'_>, k: usize, declared: Opti
         said.say_name(name, "has to be int main(void)");
     } else if source.is_declared(k) {
         said.say_name(name, "has length 0: an array has an element at least");
-    } else if declared.is_none_or(|token| source.is(after(token, 1), Mark::LeftParen)) {
-        say_function(said, name, next);
     } else {
-        say_variable(said, name, next);
+        let is_function = declared.is_none_or(|token| source.is(after(token, 1), Mark::LeftParen));
+        say_use(said, name, is_function, next);
     }
 }
 
@@ -181,7 +171,12 @@ pub(crate) fn say_types(
 ) -> Result<(), AllocError> {
     let k = source.index_of(fault.at);
     let names = names_before(alloc, source, k)?;
-    let declared = in_sight(source, names.as_slice(), k);
+    let name = source.spelling(k);
+    let declared = names
+        .iter()
+        .rev()
+        .find(|token| source.spelling(**token) == name)
+        .copied();
     match fault.kind {
         TypeFaultKind::Undeclared => {
             return say_undeclared(alloc, said, source, names.as_slice(), k);
