@@ -1,20 +1,11 @@
 -- A command's arguments, as the grammar's parts spell them. (For private functions.)
-use Rattle.std.specs.Prelude.{List, [], ◌∷◌, Some, true}
-use Rattle.clap.specs.Words.{App, Rule, Text, new_app, new_rule, with_rule, with_subcommand}
-use Rattle.clap.specs.declared.builder.ArgAction.{ArgAction}
+use Rattle.std.specs.Prelude.{List, [], ◌∷◌}
+use Rattle.clap.specs.Words.{App, Rule, Text, new_app, with_rule, with_subcommand}
 use Rattle.command_line.specs.Commands.{flag_rule, number_rule, required_rule, several_rule, text_rule}
 use Rattle.command_line.specs.declared.parts.Form.{Form}
 use Rattle.command_line.specs.declared.parts.Form.TheVariants.{Required, Several, Number, Flag, Text as Texts}
 use Rattle.command_line.specs.declared.parts.Part.{Part}
 use Rattle.command_line.specs.declared.parts.CommandParts.{CommandParts}
-
--- an argument by its place, which must be there, with what is done with it
-abbrev pub placed_rule : Text → ArgAction → Rule
-placed_rule id action = record (new_rule id) { required = true; action = Some action }
-
--- `--id`, with or without a value
-abbrev pub option_rule : Text → ArgAction → Rule
-option_rule id action = record (new_rule id) { long = Some id; action = Some action }
 
 -- the rule of an argument that is given so
 abbrev pub rule_of_form : Text → Form → Rule

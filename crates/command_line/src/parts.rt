@@ -3,9 +3,8 @@
 ghost use Rattle.std.specs.Prelude.{◌≡◌, Bool, false, IfOk};
 ghost use Rattle.clap.specs.Words.{App, app_of, new_app, rule_of, with_rule, with_subcommand};
 ghost use Rattle.clap.specs.declared.builder.command.Command.TheViews.{out-Command};
-ghost use Rattle.command_line.specs.Commands.{number_rule};
 ghost use Rattle.command_line.specs.Commands.{with_required_subcommand, with_version};
-ghost use Rattle.command_line.specs.Parts.{app_over, command_app, option_rule, placed_rule, rule_for};
+ghost use Rattle.command_line.specs.Parts.{app_over, command_app, rule_for};
 
 use crate::pages::Page;
 use clap::builder::ValueParser;
@@ -130,39 +129,15 @@ fn argument<'a>(alloc: Global, part: &Part<'a>) -> Arg<'a>
     ensures rule { rule_of result ≡ rule_for part.now }
     ensures local { result.global ≡ false }
 {
-    let (id, about) = (part.id, part.about);
+    let argument = Arg::new(alloc, part.id).help(part.about);
     match part.form {
-        Form::Required => placed_argument(alloc, id, ArgAction::Set, about),
-        Form::Several => placed_argument(alloc, id, ArgAction::Append, about),
-        Form::Number { low, high } => number(alloc, id, low, high, about),
-        Form::Flag => option(alloc, id, ArgAction::SetTrue, about),
-        Form::Text => option(alloc, id, ArgAction::Set, about),
+        Form::Required => argument.required(true).action(ArgAction::Set),
+        Form::Several => argument.required(true).action(ArgAction::Append),
+        Form::Number { low, high } => argument
+            .long(part.id)
+            .action(ArgAction::Set)
+            .value_parser(ValueParser::unsigned(low, high)),
+        Form::Flag => argument.long(part.id).action(ArgAction::SetTrue),
+        Form::Text => argument.long(part.id).action(ArgAction::Set),
     }
-}
-
-/// Returns an argument by its place, which must be there.
-fn placed_argument<'a>(alloc: Global, id: &'a str, action: ArgAction, about: &'a str) -> Arg<'a>
-    ensures rule { rule_of result ≡ placed_rule id.entry.now action }
-    ensures local { result.global ≡ false }
-{
-    Arg::new(alloc, id)
-        .required(true)
-        .action(action)
-        .help(about)
-}
-
-/// Returns the option `--id`.
-fn option<'a>(alloc: Global, id: &'a str, action: ArgAction, about: &'a str) -> Arg<'a>
-    ensures rule { rule_of result ≡ option_rule id.entry.now action }
-    ensures local { result.global ≡ false }
-{
-    Arg::new(alloc, id).long(id).action(action).help(about)
-}
-
-/// Returns the option `--id N` with N from low to high.
-fn number<'a>(alloc: Global, id: &'a str, low: u64, high: u64, about: &'a str) -> Arg<'a>
-    ensures rule { rule_of result ≡ number_rule id.entry.now low high }
-    ensures local { result.global ≡ false }
-{
-    option(alloc, id, ArgAction::Set, about).value_parser(ValueParser::unsigned(low, high))
 }
