@@ -229,10 +229,11 @@ fn entered_show<'a>(values: &ArgMatches<'a>) -> Option<Command<'a>>
     })
 }
 
-/// Returns the command of this name, with its values.
-fn command_named<'a>(alloc: Global, name: &str, values: &ArgMatches<'a>) -> Option<Command<'a>>
-    ensures { IfSome result (HasValues name.now (rows_of (found_of values.now))) }
+/// Returns the command of the matches, with its values.
+fn entered_command<'a>(alloc: Global, matches: &ArgMatches<'a>) -> Option<Command<'a>>
+    ensures { IfSome result (λ w. (name : _) × (rows : _) × (subcommand_rows_of matches.now ≡ Some (name, rows)) × HasValues name rows w) }
 {
+    let (name, values) = matches.subcommand()?;
     match name {
         "check" => entered_check(alloc, values),
         "interp" => entered_interp(values),
@@ -242,13 +243,6 @@ fn command_named<'a>(alloc: Global, name: &str, values: &ArgMatches<'a>) -> Opti
         "show" => entered_show(values),
         _ => None,
     }
-}
-
-fn entered_command<'a>(alloc: Global, matches: &ArgMatches<'a>) -> Option<Command<'a>>
-    ensures { IfSome result (λ w. (name : _) × (rows : _) × (subcommand_rows_of matches.now ≡ Some (name, rows)) × HasValues name rows w) }
-{
-    let (name, values) = matches.subcommand()?;
-    command_named(alloc, name, values)
 }
 
 /// Returns clap's matches of the words.
