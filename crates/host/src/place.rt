@@ -107,6 +107,7 @@ fn quote_of(alloc: Global, text: &[u8], at: usize) -> Result<Vec<u8>, AllocError
     let start = line_start(text, at);
     let end = (at..text.len()).find(|k| text.get(*k) == Some(&b'\n'));
     let end = end.unwrap_or(text.len());
+    // of a long line a part around the place is shown
     let (from, to) = if end.saturating_sub(start) <= WIDTH {
         (start, end)
     } else {
