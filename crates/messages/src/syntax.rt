@@ -80,6 +80,8 @@ const STATEMENT: &str = "a statement is an assignment or a call: x = x + 1; f(x)
 /// What is written in place of calls that the subset leaves out. The first hint holds whose facts hold, of these and then of the others.
 #[rattlefmt::skip]
 const CALL_HINTS: &[(&[Fact], &str)] = &[
+    (&[InFunction, Is(Mark::LeftParen), AfterDeclared],
+        "a local has its value behind '=': int x = 1; functions stand at file scope"),
     (&[InFunction, Is(Mark::LeftParen), AfterName, BeginsWithReturn],
         "a call stands alone or behind 'name =': int r; r = f(1); return r;"),
     (&[InFunction, Is(Mark::LeftParen), AfterName, Before(2, Mark::Assign), Before(3, Mark::RightBracket)],
