@@ -3,7 +3,7 @@
 use crate::term::{pair_sign, root_page, zero_sign};
 use crate::terms::{Code, Left, Root, left_of};
 use block_validator::Place;
-use mblock::{Block, BlockNumber};
+use mblock::Block;
 use mips_isa::{Mnemonic, NonzeroReg};
 use std::alloc::{AllocError, Global};
 use sym_exec::{Guard, TermExit};
@@ -15,16 +15,10 @@ use words::Width;
 #[rattlefmt::skip]
 const OTHERS: [Place; 5] = [Place::Hi, Place::Lo, Place::Memory, Place::Exit, Place::Guards];
 
-/// Writes the number of a block behind a text.
-pub(crate) fn put_target(out: &mut Writer, before: &str, target: BlockNumber) {
-    out.text(before);
-    out.put(&target.number());
-}
-
 /// Writes the exit by the terms that it reads and its targets.
 fn put_exit(out: &mut Writer, exit: TermExit, first: &Page, second: &Page) {
     match exit {
-        TermExit::Goto(target) => put_target(out, "goto ", target),
+        TermExit::Goto(target) => out.put(&format_args!("goto {}", target.number())),
         TermExit::BranchPair {
             test,
             then,
@@ -34,8 +28,7 @@ fn put_exit(out: &mut Writer, exit: TermExit, first: &Page, second: &Page) {
             out.page(first);
             out.text(pair_sign(test));
             out.page(second);
-            put_target(out, " ? ", then);
-            put_target(out, " : ", other);
+            out.put(&format_args!(" ? {} : {}", then.number(), other.number()));
         }
         TermExit::BranchZero {
             test,
@@ -45,12 +38,10 @@ fn put_exit(out: &mut Writer, exit: TermExit, first: &Page, second: &Page) {
         } => {
             out.page(first);
             out.text(zero_sign(test));
-            put_target(out, " ? ", then);
-            put_target(out, " : ", other);
+            out.put(&format_args!(" ? {} : {}", then.number(), other.number()));
         }
         TermExit::Call { function, next } => {
-            put_target(out, "call ", function);
-            put_target(out, ", then ", next);
+            out.put(&format_args!("call {}, then {}", function.number(), next.number()));
         }
         TermExit::Return(_) => {
             out.text("return to ");
@@ -59,7 +50,7 @@ fn put_exit(out: &mut Writer, exit: TermExit, first: &Page, second: &Page) {
         TermExit::Out { next, .. } => {
             out.text("out ");
             out.page(first);
-            put_target(out, ", then ", next);
+            out.put(&format_args!(", then {}", next.number()));
         }
         TermExit::Halt(_) => {
             out.text("halt with ");
@@ -68,35 +59,7 @@ fn put_exit(out: &mut Writer, exit: TermExit, first: &Page, second: &Page) {
     }
 }
 
-fn exit_page(alloc: Global, left: &mut Left, depth: u32) -> Result<Page, AllocError> {
-    let first = root_page(alloc, left, Root::Exit(true), depth)?;
-    let second = root_page(alloc, left, Root::Exit(false), depth)?;
-    let mut out = Writer::new(alloc);
-    put_exit(&mut out, left.exit(), &first, &second);
-    out.end()
-}
-
-/// Writes a guard by the terms that it reads.
-fn put_guard(out: &mut Writer, guard: Guard, first: &Page, second: &Page) {
-    match guard {
-        Guard::Address { width, .. } => {
-            out.text(match width {
-                Width::Word => "word at ",
-                Width::Byte => "byte at ",
-            });
-            out.page(first);
-        }
-        Guard::Division { sign, .. } => {
-            out.text(Mnemonic::Divide(sign).name());
-            out.text(" ");
-            out.page(first);
-            out.text(" by ");
-            out.page(second);
-        }
-    }
-}
-
-/// Returns the guard of a number.
+/// Returns the guard of a number by the terms that it reads.
 fn guard_page(
     alloc: Global,
     left: &mut Left,
@@ -107,23 +70,32 @@ fn guard_page(
     let second = root_page(alloc, left, Root::Guard(number, false), depth)?;
     let mut out = Writer::new(alloc);
     if let Some(guard) = left.guards().get(number) {
-        put_guard(&mut out, *guard, &first, &second);
+        match *guard {
+            Guard::Address { width, .. } => {
+                out.text(match width {
+                    Width::Word => "word at ",
+                    Width::Byte => "byte at ",
+                });
+                out.page(&first);
+            }
+            Guard::Division { sign, .. } => {
+                out.put(&format_args!("{} ", Mnemonic::Divide(sign).name()));
+                out.page(&first);
+                out.text(" by ");
+                out.page(&second);
+            }
+        }
     }
     out.end()
 }
 
-/// Reports whether one of these pages says the same.
-fn is_among(pages: &[Page], page: &Page) -> bool {
-    pages.iter().any(|other| other.bytes() == page.bytes())
-}
-
 /// Returns all guards one after another, each of them once.
 fn guards_page(alloc: Global, left: &mut Left, depth: u32) -> Result<Page, AllocError> {
-    let mut pages = Vec::new(alloc);
+    let mut pages: Vec<Page> = Vec::new(alloc);
     let mut out = Writer::new(alloc);
     for number in 0..left.guards().len() {
         let page = guard_page(alloc, left, number, depth)?;
-        if !is_among(pages.as_slice(), &page) {
+        if !pages.iter().any(|other| other.bytes() == page.bytes()) {
             out.text(if pages.is_empty() { "" } else { "; " });
             out.page(&page);
             pages.push(page)?;
@@ -154,24 +126,18 @@ pub(crate) fn place_page(
     depth: u32,
 ) -> Result<Page, AllocError> {
     match place {
-        Place::Exit => exit_page(alloc, left, depth),
+        Place::Exit => {
+            let first = root_page(alloc, left, Root::Exit(true), depth)?;
+            let second = root_page(alloc, left, Root::Exit(false), depth)?;
+            let mut out = Writer::new(alloc);
+            put_exit(&mut out, left.exit(), &first, &second);
+            out.end()
+        }
         Place::Guards => guards_page(alloc, left, depth),
         _ => match root_of(place) {
             Some((root, _)) => root_page(alloc, left, root, depth),
             None => Ok(Page::empty(alloc)),
         },
-    }
-}
-
-/// Reports whether a place keeps what was there at the start.
-fn is_kept(left: &mut Left, place: Place) -> Result<bool, AllocError> {
-    let Some((root, label)) = root_of(place) else {
-        return Ok(false);
-    };
-    left.start(root)?;
-    match left.next()? {
-        Some((found, _)) => Ok(found == label),
-        None => Ok(true),
     }
 }
 
@@ -187,7 +153,7 @@ pub fn put_place(out: &mut Writer, place: Place) {
     }
 }
 
-/// Writes a line for a place, unless it keeps what was there.
+/// Writes a line for a place, unless it keeps what was there at the start.
 fn put_line(
     alloc: Global,
     out: &mut Writer,
@@ -195,8 +161,15 @@ fn put_line(
     place: Place,
     depth: u32,
 ) -> Result<(), AllocError> {
-    if is_kept(left, place)? {
-        return Ok(());
+    if let Some((root, before)) = root_of(place) {
+        left.start(root)?;
+        let is_kept = match left.next()? {
+            Some((found, _)) => found == before,
+            None => true,
+        };
+        if is_kept {
+            return Ok(());
+        }
     }
     out.text("    ");
     put_place(out, place);
@@ -206,24 +179,6 @@ fn put_line(
     });
     out.page(&place_page(alloc, left, place, depth)?);
     out.text("\n");
-    Ok(())
-}
-
-/// Writes a line for each place that changes.
-fn put_changed(
-    alloc: Global,
-    out: &mut Writer,
-    left: &mut Left,
-    depth: u32,
-) -> Result<(), AllocError> {
-    for r in 1..32u8 {
-        if let Some(register) = NonzeroReg::new(r) {
-            put_line(alloc, out, left, Place::Register(register), depth)?;
-        }
-    }
-    for place in OTHERS {
-        put_line(alloc, out, left, place, depth)?;
-    }
     Ok(())
 }
 
@@ -239,5 +194,13 @@ pub fn put_left(
         out.text("    full\n");
         return Ok(());
     };
-    put_changed(alloc, out, &mut left, depth)
+    for r in 1..32u8 {
+        if let Some(register) = NonzeroReg::new(r) {
+            put_line(alloc, out, &mut left, Place::Register(register), depth)?;
+        }
+    }
+    for place in OTHERS {
+        put_line(alloc, out, &mut left, place, depth)?;
+    }
+    Ok(())
 }

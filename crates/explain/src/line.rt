@@ -76,13 +76,12 @@ fn mnemonic<'t>(line: &'t [u8]) -> &'t [u8] {
     }
 }
 
-fn shown_word<'t>(bytes: &'t [u8]) -> &'t str {
-    str::from_utf8(bytes).unwrap_or("?")
-}
-
-/// Returns the form of the instructions of a mnemonic.
-fn form(mnemonic: Mnemonic) -> Form {
-    match mnemonic {
+/// Returns the form of an instruction that a word names.
+fn instruction(word: &[u8]) -> Option<Form> {
+    if word == b"nop".as_slice() {
+        return Some(("", ALONE));
+    }
+    Some(match mnemonic_named(word)? {
         Mnemonic::Shift(_) => (" $rd,$rt,n", SMALL),
         Mnemonic::ShiftBy(_) => (" $rd,$rt,$rs", NO_NUMBER),
         Mnemonic::Alu(_) => (" $rd,$rs,$rt", NO_NUMBER),
@@ -92,15 +91,7 @@ fn form(mnemonic: Mnemonic) -> Form {
         Mnemonic::MoveFrom(_) => (" $rd", NO_NUMBER),
         Mnemonic::Multiply(_) | Mnemonic::Divide(_) => (" $rs,$rt", NO_NUMBER),
         Mnemonic::Load(_) | Mnemonic::Store(_) => (" $rt,n($base)", SIGNED),
-    }
-}
-
-/// Returns the form of an instruction that a word names.
-fn instruction(word: &[u8]) -> Option<Form> {
-    if word == b"nop".as_slice() {
-        return Some(("", ALONE));
-    }
-    Some(form(mnemonic_named(word)?))
+    })
 }
 
 /// Returns the form of an exit that a word names.
@@ -116,12 +107,6 @@ fn exit(word: &[u8]) -> Option<Form> {
         ExitName::Out => " N",
     };
     Some((operands, BLOCKS))
-}
-
-/// Returns what to write in place of a word that is no instruction.
-fn other(word: &[u8]) -> Option<&'static str> {
-    let found = OTHERS.iter().find(|row| row.0 == word)?;
-    Some(found.1)
 }
 
 /// Returns what has to stand after a line that stands in its place.
@@ -140,60 +125,34 @@ fn stage_after(stage: Stage, line: &[u8]) -> Stage {
     }
 }
 
-/// Returns what has to stand at a line, counted from 1, and the line; None if the text has no such line.
-fn stage_at<'t>(text: &'t [u8], line: u32) -> (Stage, Option<&'t [u8]>) {
-    let (mut stage, mut rest) = (Stage::Block, text);
-    for _ in 1..line {
-        if !rest.is_empty() {
-            let halves = first_line(rest);
-            stage = stage_after(stage, halves.before);
-            rest = halves.after;
-        }
-    }
-    if rest.is_empty() {
-        return (stage, None);
-    }
-    (stage, Some(first_line(rest).before))
-}
-
 /// Says what is wrong with a line that should be an instruction or an exit.
 fn say_instruction(said: &mut Said, line: &[u8]) {
-    let word = mnemonic(line);
     if line.is_empty() {
         return said.say("an empty line can't stand in a check text");
     }
     if line.contains(&b'\t') {
         return said.say_both("a line has a tab", "write one space behind the mnemonic");
     }
-    match instruction(word).or(exit(word)) {
-        Some(form) => say_operands(said, line, form),
-        None => say_unknown(said, word),
-    }
-}
-
-/// Says what is wrong with the operands of a line whose mnemonic has this form.
-fn say_operands(said: &mut Said, line: &[u8], form: Form) {
+    let word = mnemonic(line);
+    let Some((operands, range)) = instruction(word).or(exit(word)) else {
+        let shown = &word[..word.len().min(SHOWN)];
+        said.say_name(
+            str::from_utf8(shown).unwrap_or("?"),
+            "is no instruction here",
+        );
+        if let Some((_, instead)) = OTHERS.iter().find(|row| row.0 == word) {
+            said.hint(instead);
+        }
+        return;
+    };
     if line.starts_with(b"lw $0,") || line.starts_with(b"lbu $0,") {
         return said.say("register 0 can't be loaded");
     }
-    let word = mnemonic(line);
-    let (operands, range) = form;
     said.say("expected ");
-    said.say(shown_word(word));
+    said.say(str::from_utf8(word).unwrap_or("?"));
     said.say(operands);
     if !say_hint_of_operands(said, word, line) {
         said.hint(range);
-    }
-}
-
-/// Says that a word names nothing, and what to write in its place.
-fn say_unknown(said: &mut Said, word: &[u8]) {
-    said.say_name(
-        shown_word(&word[..word.len().min(SHOWN)]),
-        "is no instruction here",
-    );
-    if let Some(hint) = other(word) {
-        said.hint(hint);
     }
 }
 
@@ -220,28 +179,23 @@ fn expected_line(stage: Stage) -> &'static str {
     }
 }
 
-/// Says what is wrong with how a line begins or ends, and with a carriage return in it. Reports whether it said something.
-fn say_blanks(said: &mut Said, line: &[u8]) -> bool {
+/// Says what is wrong with a line at its stage.
+fn say_line(said: &mut Said, stage: Stage, line: &[u8]) {
     if line.ends_with(b"\r") {
-        said.say_both(
+        return said.say_both(
             "the line ends with a carriage return",
             "save the text with LF at the ends of its lines",
         );
-    } else if line.starts_with(b" ") || line.starts_with(b"\t") {
-        said.say_both("a line begins with a blank", "leave it out");
-    } else if line.contains(&b'\r') {
-        said.say_both(
+    }
+    if line.starts_with(b" ") || line.starts_with(b"\t") {
+        return said.say_both("a line begins with a blank", "leave it out");
+    }
+    if line.contains(&b'\r') {
+        return said.say_both(
             "a line has a carriage return",
             "end each line by a line feed alone",
         );
-    } else {
-        return false;
     }
-    true
-}
-
-/// Says what is wrong with a line at its stage.
-fn say_line(said: &mut Said, stage: Stage, line: &[u8]) {
     match stage {
         Stage::InBlock(before) => say_inside(said, line, before, BLOCK, "a block"),
         Stage::InOrder(before) => say_inside(said, line, before, ORDER, "an order"),
@@ -259,15 +213,20 @@ fn say_line(said: &mut Said, stage: Stage, line: &[u8]) {
 pub fn explain_line(alloc: Global, text: &[u8], line: u32) -> Result<Explanation, AllocError>
     ensures { IfOk result IsPrintableExplanation }
 {
-    let mut said = Said::new(alloc);
-    let (stage, found) = stage_at(text, line);
-    if let Some(line) = found {
-        if !say_blanks(&mut said, line) {
-            say_line(&mut said, stage, line);
+    let (mut stage, mut rest) = (Stage::Block, text);
+    for _ in 1..line {
+        if !rest.is_empty() {
+            let halves = first_line(rest);
+            stage = stage_after(stage, halves.before);
+            rest = halves.after;
         }
-    } else {
+    }
+    let mut said = Said::new(alloc);
+    if rest.is_empty() {
         said.say(expected_line(stage));
         said.say(" at the text's end");
+    } else {
+        say_line(&mut said, stage, first_line(rest).before);
     }
     said.end(alloc)
 }

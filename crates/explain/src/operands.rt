@@ -14,14 +14,6 @@ const REGISTERS: &[&[u8]] = &[
     b"$t8", b"$t9", b"$k0", b"$k1", b"$gp", b"$sp", b"$fp", b"$ra",
 ];
 
-/// Returns the number of a register that assemblers name so.
-fn register_number(operand: &[u8]) -> Option<usize> {
-    if operand == b"$s8".as_slice() {
-        return Some(30);
-    }
-    REGISTERS.iter().position(|name| *name == operand)
-}
-
 /// Returns the sign and the value of a number that is written in hexadecimal.
 fn hexadecimal(operand: &[u8]) -> Option<(&'static str, u32)> {
     let (sign, number) = match operand {
@@ -37,7 +29,12 @@ fn hexadecimal(operand: &[u8]) -> Option<(&'static str, u32)> {
 
 /// Says what is wrong with an operand that an assembler takes. Reports whether it said something.
 fn say_hint_of_operand(said: &mut Said, operand: &[u8]) -> bool {
-    if let Some(number) = register_number(operand) {
+    let register = if operand == b"$s8".as_slice() {
+        b"$fp".as_slice()
+    } else {
+        operand
+    };
+    if let Some(number) = REGISTERS.iter().position(|name| *name == register) {
         said.hint(str::from_utf8(operand).unwrap_or("?"));
         said.hint(" is $");
         said.hint.put(&number);
@@ -62,26 +59,21 @@ fn first_operand<'t>(operands: &'t [u8]) -> (&'t [u8], &'t [u8]) {
     (operands, b"")
 }
 
-/// Returns the instruction that has a number in place of the third register, and the least and greatest one.
-fn immediate(mnemonic: Mnemonic) -> Option<(Mnemonic, i32, i32)> {
-    match mnemonic {
-        Mnemonic::Alu(AluOp::Addu) => Some((Mnemonic::Imm(ImmOp::Addiu), -32768, 32767)),
-        Mnemonic::Alu(AluOp::Slt) => Some((Mnemonic::Imm(ImmOp::Slti), -32768, 32767)),
-        Mnemonic::Alu(AluOp::Sltu) => Some((Mnemonic::Imm(ImmOp::Sltiu), -32768, 32767)),
-        Mnemonic::Alu(AluOp::And) => Some((Mnemonic::Logic(LogicOp::Andi), 0, 65535)),
-        Mnemonic::Alu(AluOp::Or) => Some((Mnemonic::Logic(LogicOp::Ori), 0, 65535)),
-        Mnemonic::Alu(AluOp::Xor) => Some((Mnemonic::Logic(LogicOp::Xori), 0, 65535)),
-        Mnemonic::ShiftBy(op) => Some((Mnemonic::Shift(op), 0, 31)),
-        _ => None,
-    }
-}
-
 /// Returns the instruction that takes the number that stands in place of a third register.
 fn with_number(word: &[u8], operands: &[u8]) -> Option<&'static str> {
     let (_, others) = first_operand(operands);
     let (_, last) = first_operand(others);
     let number = str::from_utf8(last).ok()?.parse::<i32>().ok()?;
-    let (found, least, greatest) = immediate(mnemonic_named(word)?)?;
+    let (found, least, greatest) = match mnemonic_named(word)? {
+        Mnemonic::Alu(AluOp::Addu) => (Mnemonic::Imm(ImmOp::Addiu), -32768, 32767),
+        Mnemonic::Alu(AluOp::Slt) => (Mnemonic::Imm(ImmOp::Slti), -32768, 32767),
+        Mnemonic::Alu(AluOp::Sltu) => (Mnemonic::Imm(ImmOp::Sltiu), -32768, 32767),
+        Mnemonic::Alu(AluOp::And) => (Mnemonic::Logic(LogicOp::Andi), 0, 65535),
+        Mnemonic::Alu(AluOp::Or) => (Mnemonic::Logic(LogicOp::Ori), 0, 65535),
+        Mnemonic::Alu(AluOp::Xor) => (Mnemonic::Logic(LogicOp::Xori), 0, 65535),
+        Mnemonic::ShiftBy(op) => (Mnemonic::Shift(op), 0, 31),
+        _ => return None,
+    };
     (least <= number && number <= greatest).then_some(found.name())
 }
 

@@ -67,19 +67,13 @@ fn operator_name(operator: Operator) -> &'static str {
     }
 }
 
-fn put_origin(out: &mut Writer, origin: &Origin) {
-    match origin {
-        Origin::Register(register) => out.put(register),
-        Origin::Hi => out.text("hi"),
-        Origin::Lo => out.text("lo"),
-        Origin::Link => out.text("link"),
-    }
-}
-
 /// Writes the label of a term, if it has no operands; a word as a signed number.
 fn put_label(out: &mut Writer, label: &Label) {
     match label {
-        Label::Init(origin) => put_origin(out, origin),
+        Label::Init(Origin::Register(register)) => out.put(register),
+        Label::Init(Origin::Hi) => out.text("hi"),
+        Label::Init(Origin::Lo) => out.text("lo"),
+        Label::Init(Origin::Link) => out.text("link"),
         Label::Mem0 => out.text("mem"),
         Label::Const(word) => out.put(&word.cast_signed()),
         Label::Op(operator) => out.text(operator_name(*operator)),
@@ -100,53 +94,38 @@ fn put_operands(out: &mut Writer, operands: &[Page], between: &str) {
     out.text(")");
 }
 
-fn cut_page(alloc: Global) -> Result<Page, AllocError> {
-    let mut out = Writer::new(alloc);
-    out.text(CUT);
-    out.end()
-}
-
-fn label_page(alloc: Global, label: &Label) -> Result<Page, AllocError> {
-    let mut out = Writer::new(alloc);
-    put_label(&mut out, label);
-    out.end()
-}
-
-/// Returns a term of a label and its operands, the last of which stands first. The label stands before them, or as a sign between them.
-fn term_page(alloc: Global, label: &Label, operands: &[Page]) -> Result<Page, AllocError> {
-    let mut out = Writer::new(alloc);
-    if let Some(sign) = infix(label) {
-        put_operands(&mut out, operands, sign);
-    } else {
-        put_label(&mut out, label);
-        put_operands(&mut out, operands, ", ");
-    }
-    out.end()
-}
-
-/// Returns the term that is next, cut at a depth, and where so many parts were shown.
+/// Returns the term that is next, cut at a depth, and where so many parts were shown. Its label stands before its operands, or as a sign
+/// between them.
 fn next_page(
     alloc: Global,
     reader: &mut Left,
     depth: u32,
     left: &mut u32,
 ) -> Result<Page, AllocError> {
+    let mut out = Writer::new(alloc);
     let Some((label, count)) = reader.next()? else {
-        return cut_page(alloc);
+        out.text(CUT);
+        return out.end();
     };
     if count == 0 {
-        return label_page(alloc, &label);
-    }
-    if depth == 0 || *left == 0 {
+        put_label(&mut out, &label);
+    } else if depth == 0 || *left == 0 {
         reader.skip(count);
-        return cut_page(alloc);
+        out.text(CUT);
+    } else {
+        *left = left.saturating_sub(1);
+        let mut operands = Vec::new(alloc);
+        for _ in 0..count {
+            operands.push(next_page(alloc, reader, depth - 1, left)?)?;
+        }
+        if let Some(sign) = infix(&label) {
+            put_operands(&mut out, operands.as_slice(), sign);
+        } else {
+            put_label(&mut out, &label);
+            put_operands(&mut out, operands.as_slice(), ", ");
+        }
     }
-    *left = left.saturating_sub(1);
-    let mut operands = Vec::new(alloc);
-    for _ in 0..count {
-        operands.push(next_page(alloc, reader, depth - 1, left)?)?;
-    }
-    term_page(alloc, &label, operands.as_slice())
+    out.end()
 }
 
 /// Returns a root's term, cut at a depth; empty where there is no such root.

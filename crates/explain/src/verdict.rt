@@ -6,7 +6,7 @@ use crate::witness::put_found;
 use block_text::{ExitLine, put_insts};
 use block_validator::Place;
 use mblock::{Block, Order, Unclean};
-use mips_isa::{Action, Plain, Reg};
+use mips_isa::{Action, Plain};
 use std::alloc::{AllocError, Global};
 use text::{Page, Writer};
 
@@ -14,40 +14,6 @@ use text::{Page, Writer};
 const DEPTHS: &[u32] = &[4, 6, 8, 12, 16, DEEPEST];
 
 const DEEPEST: u32 = 24;
-
-/// Returns a delay rule in words.
-fn rule_words(rule: Unclean) -> &'static str {
-    match rule {
-        Unclean::LoadUse => {
-            "an instruction reads or writes the register that the one just before it loads"
-        }
-        Unclean::ProductAfterMove => {
-            "fewer than two words stand between mfhi or mflo and a mult, multu, div or divu behind it"
-        }
-        Unclean::SlotLoadOrMove => "a load, mfhi or mflo is in the slot",
-        Unclean::ExitLoad => {
-            "the last instruction loads a register that the exit's first word reads or writes"
-        }
-    }
-}
-
-/// Returns the register that an instruction loads.
-fn loaded_register(inst: &Plain) -> Option<Reg> {
-    match inst.action() {
-        Action::Loads { d, .. } => Some(d.reg()),
-        _ => None,
-    }
-}
-
-/// Returns the first instruction that touches what the one before it loads: the places of the two.
-fn load_use(insts: &[Plain]) -> Option<(usize, usize)> {
-    let k = insts.windows(2).position(|pair| match pair {
-        [inst, next] =>
-            matches!(loaded_register(inst), Some(loaded) if next.action().touches(loaded)),
-        _ => false,
-    })?;
-    Some((k, k + 1))
-}
 
 /// Returns an instruction of an order by the place of its word: the exit's first word and the slot are after the others.
 fn word_at(order: &Order, place: usize) -> Option<Plain> {
@@ -57,16 +23,12 @@ fn word_at(order: &Order, place: usize) -> Option<Plain> {
     order.insts().get(place).copied()
 }
 
-fn is_product_at(order: &Order, place: usize) -> bool {
-    matches!(word_at(order, place), Some(inst) if inst.action().is_product())
-}
-
 /// Returns the first product that comes too soon after a move: the places of the two.
 fn early_product(order: &Order) -> Option<(usize, usize)> {
     for (k, inst) in order.insts().iter().enumerate() {
         if inst.action().is_move() {
             for place in [k.saturating_add(1), k.saturating_add(2)] {
-                if is_product_at(order, place) {
+                if matches!(word_at(order, place), Some(word) if word.action().is_product()) {
                     return Some((k, place));
                 }
             }
@@ -79,7 +41,16 @@ fn early_product(order: &Order) -> Option<(usize, usize)> {
 fn breaking(rule: Unclean, order: &Order) -> Option<(usize, usize)> {
     let exit = order.insts().len();
     match rule {
-        Unclean::LoadUse => load_use(order.insts()),
+        Unclean::LoadUse => {
+            let k = order.insts().windows(2).position(|pair| match pair {
+                [inst, next] => match inst.action() {
+                    Action::Loads { d, .. } => next.action().touches(d.reg()),
+                    _ => false,
+                },
+                _ => false,
+            })?;
+            Some((k, k + 1))
+        }
         Unclean::ProductAfterMove => early_product(order),
         Unclean::SlotLoadOrMove => Some((exit, exit.saturating_add(1))),
         Unclean::ExitLoad => Some((exit.saturating_sub(1), exit)),
@@ -95,7 +66,19 @@ fn put_word(out: &mut Writer, order: &Order, place: usize) {
 
 /// Writes which delay rule an order breaks, and the words that break it.
 pub fn put_unclean(out: &mut Writer, rule: Unclean, order: &Order) {
-    out.put(&format_args!("{}:\n", rule_words(rule)));
+    out.text(match rule {
+        Unclean::LoadUse => {
+            "an instruction reads or writes the register that the one just before it loads"
+        }
+        Unclean::ProductAfterMove => {
+            "fewer than two words stand between mfhi or mflo and a mult, multu, div or divu behind it"
+        }
+        Unclean::SlotLoadOrMove => "a load, mfhi or mflo is in the slot",
+        Unclean::ExitLoad => {
+            "the last instruction loads a register that the exit's first word reads or writes"
+        }
+    });
+    out.text(":\n");
     if let Some((first, second)) = breaking(rule, order) {
         put_word(out, order, first);
         put_word(out, order, second);
@@ -119,34 +102,8 @@ fn page_at(
     }
 }
 
-/// Writes what block and order leave in a place, at the first depth that tells them apart.
-fn put_apart(
-    alloc: Global,
-    out: &mut Writer,
-    place: &Place,
-    block: &mut Option<Left>,
-    order: &mut Option<Left>,
-) -> Result<(), AllocError> {
-    for depth in DEPTHS {
-        let one = page_at(alloc, block, place, *depth)?;
-        let other = page_at(alloc, order, place, *depth)?;
-        if one.bytes() != other.bytes() || *depth == DEEPEST {
-            put_pages(out, &one, &other);
-            break;
-        }
-    }
-    Ok(())
-}
-
-fn put_pages(out: &mut Writer, block: &Page, order: &Page) {
-    out.text("block: ");
-    out.page(block);
-    out.text("\norder: ");
-    out.page(order);
-    out.text("\n");
-}
-
-/// Writes what block and order leave in a place where they differ, and a start that refutes the order.
+/// Writes what block and order leave in a place where they differ, at the first depth that tells them apart, and a start that refutes the
+/// order.
 pub fn put_differing(
     alloc: Global,
     out: &mut Writer,
@@ -156,6 +113,17 @@ pub fn put_differing(
 ) -> Result<(), AllocError> {
     let mut first = left_of(alloc, Code::Block(block))?;
     let mut second = left_of(alloc, Code::Order(order))?;
-    put_apart(alloc, out, place, &mut first, &mut second)?;
+    for depth in DEPTHS {
+        let one = page_at(alloc, &mut first, place, *depth)?;
+        let other = page_at(alloc, &mut second, place, *depth)?;
+        if one.bytes() != other.bytes() || *depth == DEEPEST {
+            out.text("block: ");
+            out.page(&one);
+            out.text("\norder: ");
+            out.page(&other);
+            out.text("\n");
+            break;
+        }
+    }
     put_found(alloc, out, block, order)
 }

@@ -1,6 +1,5 @@
 //! A start that refutes an order, as lines.
 
-use crate::left::put_target;
 use counterexample::{
     Departs, Difference, Left, Start, Witness, find_start, loaded_words, run_block, run_order,
 };
@@ -29,19 +28,7 @@ fn exit_reads(exit: &Exit, register: NonzeroReg) -> bool {
     }
 }
 
-/// Reports whether block or order read it.
-fn is_read(block: &Block, order: &Order, register: NonzeroReg) -> bool {
-    insts_read(block.insts(), register)
-        || insts_read(order.insts(), register)
-        || exit_reads(&block.exit(), register)
-}
-
-/// Reports whether it is the register in which the two differ, which one of them may leave as it was.
-fn is_left(difference: &Difference, register: NonzeroReg) -> bool {
-    matches!(*difference, Difference::Register(r) if r == register.reg())
-}
-
-/// Writes the registers that are read or left, with their words at the start.
+/// Writes the registers that are read, and the one in which the two differ, with their words at the start.
 fn put_start(
     out: &mut Writer,
     block: &Block,
@@ -50,11 +37,16 @@ fn put_start(
     difference: &Difference,
 ) {
     for r in 1..32u8 {
-        if let Some(register) = NonzeroReg::new(r)
-            && (is_read(block, order, register) || is_left(difference, register))
-        {
-            let (register, word) = (register.reg(), WordDigits(start.regs[r as usize]));
-            out.put(&format_args!("  {register} = 0x{word}\n"));
+        if let Some(register) = NonzeroReg::new(r) {
+            let is_read = insts_read(block.insts(), register)
+                || insts_read(order.insts(), register)
+                || exit_reads(&block.exit(), register);
+            // one of the two may leave this one as it was
+            let is_left = matches!(*difference, Difference::Register(d) if d == register.reg());
+            if is_read || is_left {
+                let word = WordDigits(start.regs[r as usize]);
+                out.put(&format_args!("  {register} = 0x{word}\n"));
+            }
         }
     }
 }
@@ -92,17 +84,6 @@ fn put_rest(
     Ok(())
 }
 
-/// Writes where a side goes on.
-fn put_departs(out: &mut Writer, departs: &Departs) {
-    match *departs {
-        Departs::To(t) => put_target(out, "goes to ", t),
-        Departs::Calls { function, .. } => put_target(out, "calls ", function),
-        Departs::Back(link) => put_word(out, "returns to 0x", link),
-        Departs::Prints { word, .. } => put_word(out, "prints 0x", word),
-        Departs::Halts(word) => put_word(out, "ends with 0x", word),
-    }
-}
-
 /// Writes what one side leaves where the two differ.
 fn put_side(out: &mut Writer, side: &str, left: &Left, difference: &Difference) {
     out.text(side);
@@ -118,7 +99,15 @@ fn put_side(out: &mut Writer, side: &str, left: &Left, difference: &Difference) 
             put_word(out, "the byte at 0x", a);
             put_word(out, " = 0x", u32::from(now.memory.byte(a)));
         }
-        Difference::Exit => put_departs(out, &left.goes),
+        Difference::Exit => match left.goes {
+            Departs::To(t) => out.put(&format_args!("goes to {}", t.number())),
+            Departs::Calls { function, .. } => {
+                out.put(&format_args!("calls {}", function.number()));
+            }
+            Departs::Back(link) => put_word(out, "returns to 0x", link),
+            Departs::Prints { word, .. } => put_word(out, "prints 0x", word),
+            Departs::Halts(word) => put_word(out, "ends with 0x", word),
+        },
         Difference::Stuck => out.text("isn't stuck"),
     }
     out.text("\n");
