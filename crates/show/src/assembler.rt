@@ -52,20 +52,14 @@ enum Form {
     Word(u32),
 }
 
-/// Reports whether a branch or jump leads to no word of the code, which has so many words.
-fn leads_out(control: &Control, address: u32, count: usize) -> bool {
-    let Some(target) = target_of(control, address) else {
-        return false;
-    };
-    target < CODE_BASE || word_index(target) >= count
-}
-
+/// Returns what a word of the code is written as, which has so many words.
 fn form_of(word: u32, address: u32, count: usize) -> Form {
     match decode(word) {
         Some(Inst::Plain(plain)) if !matches!(plain, Plain::Divide { .. }) => Form::Plain(plain),
-        Some(Inst::Control(control)) if !leads_out(&control, address, count) => {
-            Form::Control(control)
-        }
+        Some(Inst::Control(control)) => match target_of(&control, address) {
+            Some(target) if target < CODE_BASE || word_index(target) >= count => Form::Word(word),
+            _ => Form::Control(control),
+        },
         _ => Form::Word(word),
     }
 }
@@ -86,19 +80,14 @@ fn targets(alloc: Global, code: &[u32]) -> Result<Vec<bool>, AllocError> {
     Ok(marks)
 }
 
-impl<'a> Label<'a> {
-    /// Reports whether it names this address, and is like no label of the source itself.
-    fn is_of(&self, address: u32) -> bool {
-        let is_like_own = self.name.len() == 9 && self.name.starts_with("L");
-        self.address == address && self.name != "__start" && !is_like_own
-    }
-}
-
-/// Returns the name of an address. The labels stand in the order of their addresses, one for each.
+/// Returns the name of an address, if it is like no label of the source itself. The labels stand in the order of their addresses, one for
+/// each.
 fn name_at<'a>(labels: &[Label<'a>], address: u32) -> Option<&'a str> {
     let place = labels.partition_point(|label| label.address < address);
     let label = labels.get(place)?;
-    label.is_of(address).then_some(label.name)
+    let is_like_own = label.name == "__start"
+        || label.name.len() == 9 && label.name.starts_with("L");
+    (label.address == address && !is_like_own).then_some(label.name)
 }
 
 /// Writes a branch or jump with a label in place of the address.
@@ -149,40 +138,7 @@ fn put_name(out: &mut Writer, labels: &[Label<'_>], address: u32, is_target: boo
     }
 }
 
-/// Writes the code, where these words of it are marked as targets.
-fn put_code(
-    alloc: Global,
-    out: &mut Writer,
-    image: &Image,
-    marks: &[bool],
-    labels: &[Label<'_>],
-) -> Result<(), AllocError> {
-    let code = image.code();
-    let mut address = CODE_BASE;
-    for (word, is_target) in code.iter().zip(marks.iter()) {
-        if address == image.entry() {
-            out.text("__start:\n");
-        }
-        put_name(out, labels, address, *is_target);
-        let form = form_of(*word, address, code.len());
-        put_form(alloc, out, form, address, labels)?;
-        address = address.wrapping_add(4);
-    }
-    Ok(())
-}
-
-/// Writes four bytes as a word, and fewer each alone.
-fn put_bytes(out: &mut Writer, bytes: &[u8]) {
-    if let [a, b, c, d] = bytes {
-        let word = u32::from_be_bytes([*a, *b, *c, *d]);
-        return out.put(&format_args!("    .word 0x{}\n", WordDigits(word)));
-    }
-    for byte in bytes {
-        out.put(&format_args!("    .byte 0x{}\n", ByteDigits(*byte)));
-    }
-}
-
-/// Writes the data, four bytes a line, and those after the last whole word.
+/// Writes the data, four bytes a line, and those after the last whole word each alone.
 fn put_data(out: &mut Writer, bytes: &[u8], labels: &[Label<'_>]) {
     if bytes.is_empty() {
         return;
@@ -191,7 +147,14 @@ fn put_data(out: &mut Writer, bytes: &[u8], labels: &[Label<'_>]) {
     let mut address = DATA_BASE;
     for part in bytes.chunks(4) {
         put_name(out, labels, address, false);
-        put_bytes(out, part);
+        if let [a, b, c, d] = part {
+            let word = u32::from_be_bytes([*a, *b, *c, *d]);
+            out.put(&format_args!("    .word 0x{}\n", WordDigits(word)));
+        } else {
+            for byte in part {
+                out.put(&format_args!("    .byte 0x{}\n", ByteDigits(*byte)));
+            }
+        }
         address = address.wrapping_add(4);
     }
 }
@@ -204,8 +167,18 @@ pub(crate) fn put_source(
     labels: &[Label<'_>],
 ) -> Result<(), AllocError> {
     out.text(HEAD);
-    let marks = targets(alloc, image.code())?;
-    put_code(alloc, out, image, marks.as_slice(), labels)?;
+    let code = image.code();
+    let marks = targets(alloc, code)?;
+    let mut address = CODE_BASE;
+    for (word, is_target) in code.iter().zip(marks.iter()) {
+        if address == image.entry() {
+            out.text("__start:\n");
+        }
+        put_name(out, labels, address, *is_target);
+        let form = form_of(*word, address, code.len());
+        put_form(alloc, out, form, address, labels)?;
+        address = address.wrapping_add(4);
+    }
     put_data(out, image.bytes(), labels);
     Ok(())
 }

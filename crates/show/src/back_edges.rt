@@ -64,41 +64,23 @@ impl<'a> Walk<'a> {
         }
     }
 
-    /// Takes an edge of a node: to a new node, or marks it where it goes back.
-    fn take(&mut self, node: usize, edge: usize) {
-        if let Some(to) = self.target(node, edge) {
-            match self.visit(to) {
-                Visit::Unseen => self.enter(to),
-                Visit::Open(_) => self.mark(node, edge),
-                Visit::Done => {}
-            }
-        }
-    }
-
-    /// Goes on from the last node of the way: by its next edge, or back.
+    /// Goes on from the last node of the way: by its next edge, which leads to a new node or is marked where it goes back, or else back.
     fn go_on(&mut self, node: usize) {
         match self.visit(node) {
             Visit::Open(edge) if edge < 2 => {
                 self.set(node, Visit::Open(edge + 1));
-                self.take(node, edge);
+                if let Some(to) = self.target(node, edge) {
+                    match self.visit(to) {
+                        Visit::Unseen => self.enter(to),
+                        Visit::Open(_) => self.mark(node, edge),
+                        Visit::Done => {}
+                    }
+                }
             }
             _ => {
                 self.set(node, Visit::Done);
                 self.way.pop();
             }
-        }
-    }
-
-    /// Walks from a node; each node has two edges to take and is left once.
-    fn walk_from(&mut self, root: usize) {
-        if self.visit(root) == Visit::Unseen {
-            self.enter(root);
-        }
-        for _ in 0..self.nodes.len().saturating_mul(3) {
-            let Some(node) = self.way.last().copied() else {
-                break;
-            };
-            self.go_on(node);
         }
     }
 }
@@ -113,7 +95,16 @@ pub(crate) fn back_edges(alloc: Global, nodes: &[Node]) -> Result<Vec<[bool; 2]>
         is_refused: false,
     };
     for root in 0..nodes.len() {
-        walk.walk_from(root);
+        if walk.visit(root) == Visit::Unseen {
+            walk.enter(root);
+        }
+        // each node has two edges to take and is left once
+        for _ in 0..nodes.len().saturating_mul(3) {
+            let Some(node) = walk.way.last().copied() else {
+                break;
+            };
+            walk.go_on(node);
+        }
     }
     if walk.is_refused {
         return Err(AllocError);

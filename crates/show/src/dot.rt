@@ -54,26 +54,21 @@ pub(crate) fn rtl_places(exit: &RExit) -> Edges {
     }
 }
 
-/// Writes a block, and its edges: two are a branch's.
-fn put_node(out: &mut Writer, nodes: &[Node], node: &Node, back: [bool; 2]) {
-    let number = node.number;
-    out.put(&format_args!("    b{number} [label=\"block {number}\\l"));
-    out.page(&node.lines);
-    out.text("\"];\n");
-    let [first, second] = node.edges;
-    let (one, other) = match second {
-        Some(_) => (" [label=\"taken\"", " [label=\"else\" style=dashed"),
-        None => (" [style=solid", ""),
-    };
-    put_edge(out, nodes, number, first, one, back[0]);
-    put_edge(out, nodes, number, second, other, back[1]);
-}
-
-/// Writes the blocks of a function.
+/// Writes the blocks of a function, each with its edges: two are a branch's.
 pub(crate) fn put_nodes(alloc: Global, out: &mut Writer, nodes: &[Node]) -> Result<(), AllocError> {
     let back = back_edges(alloc, nodes)?;
     for (node, back) in nodes.iter().zip(back.iter()) {
-        put_node(out, nodes, node, *back);
+        let number = node.number;
+        out.put(&format_args!("    b{number} [label=\"block {number}\\l"));
+        out.page(&node.lines);
+        out.text("\"];\n");
+        let [first, second] = node.edges;
+        let (one, other) = match second {
+            Some(_) => (" [label=\"taken\"", " [label=\"else\" style=dashed"),
+            None => (" [style=solid", ""),
+        };
+        put_edge(out, nodes, number, first, one, back[0]);
+        put_edge(out, nodes, number, second, other, back[1]);
     }
     Ok(())
 }

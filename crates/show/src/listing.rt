@@ -6,17 +6,14 @@ use mblock::{Exit, Order};
 use std::str::Lines;
 use text::Writer;
 
-/// Returns how many words an exit has with its slot.
-fn exit_words(exit: Exit) -> usize {
-    match exit {
-        Exit::Goto(_) | Exit::Return | Exit::Halt => 2,
-        _ => 4,
-    }
-}
-
 /// Returns how many words of code an order has.
 pub fn order_words(order: &Order) -> usize {
-    order.insts().len().saturating_add(exit_words(order.exit()))
+    // those of the exit, with its slot
+    let last = match order.exit() {
+        Exit::Goto(_) | Exit::Return | Exit::Halt => 2,
+        _ => 4,
+    };
+    order.insts().len().saturating_add(last)
 }
 
 /// Writes the lines of so many words, shown or left out.
@@ -25,16 +22,7 @@ fn put_words(out: &mut Writer, lines: &mut Lines<'_>, words: usize, is_shown: bo
         if let Some(line) = lines.next()
             && is_shown
         {
-            put_line(out, line);
-        }
-    }
-}
-
-/// Writes the bytes after the last whole word of data, of which each has a line. The report of a build isn't shown.
-fn put_rest(out: &mut Writer, lines: &mut Lines<'_>) {
-    for line in lines {
-        if !line.starts_with("report") {
-            put_line(out, line);
+            out.put(&format_args!("    {line}\n"));
         }
     }
 }
@@ -63,24 +51,25 @@ impl<'a> View<'a> {
         }
     }
 
-    /// Writes the lines of data, under the global's name.
-    fn list_data(&self, out: &mut Writer, lines: &mut Lines<'_>) {
-        for (k, global) in self.shown.rtl.globals().iter().enumerate() {
-            out.put(&format_args!("data {}\n", self.names.global(k)));
-            let words = global.width.words_of(global.length) as usize;
-            put_words(out, lines, words, true);
-        }
-        put_rest(out, lines);
-    }
-
-    /// Writes the listing of an image, function by function.
+    /// Writes the listing of an image, function by function, and the lines of data, under the global's name.
     pub(crate) fn put_listing(&self, out: &mut Writer, orders: &[Order], listing: &str) {
         let mut lines = listing.lines();
         for number in 0..self.ranges.len() {
             self.list_function(out, &mut lines, number, orders);
         }
-        if self.wanted.only.is_none() {
-            self.list_data(out, &mut lines);
+        if self.wanted.only.is_some() {
+            return;
+        }
+        for (k, global) in self.shown.rtl.globals().iter().enumerate() {
+            out.put(&format_args!("data {}\n", self.names.global(k)));
+            let words = global.width.words_of(global.length) as usize;
+            put_words(out, &mut lines, words, true);
+        }
+        // each byte after the last whole word has a line; the report of a build isn't shown
+        for line in lines {
+            if !line.starts_with("report") {
+                out.put(&format_args!("    {line}\n"));
+            }
         }
     }
 }
@@ -100,9 +89,4 @@ pub(crate) fn put_heading(out: &mut Writer, number: usize, called: Option<&str>)
     if let Some(name) = called {
         out.put(&format_args!(" (calls {name})"));
     }
-}
-
-/// Writes a line of a block, after a margin.
-fn put_line(out: &mut Writer, line: &str) {
-    out.put(&format_args!("    {line}\n"));
 }

@@ -20,17 +20,6 @@ pub(crate) struct Names<'t> {
     is_refused: bool,
 }
 
-fn is_type(token: Option<Token>) -> bool {
-    matches!(
-        token,
-        Some(Token::The(Mark::Int | Mark::Unsigned | Mark::Char | Mark::Void))
-    )
-}
-
-fn is_paren(token: Option<&Token>) -> bool {
-    matches!(token, Some(Token::The(Mark::LeftParen)))
-}
-
 fn tokens_of(alloc: Global, text: &[u8]) -> Result<Vec<Token>, AllocError> {
     if text.len() > MAX_TEXT {
         return Ok(Vec::new(alloc));
@@ -54,9 +43,17 @@ impl<'t> Names<'t> {
         let mut before = None;
         let mut open = 0usize;
         for (k, token) in tokens.iter().enumerate() {
+            let is_declared = matches!(
+                before,
+                Some(Token::The(Mark::Int | Mark::Unsigned | Mark::Char | Mark::Void))
+            );
             match *token {
-                Token::Name(name) if is_type(before) => {
-                    names.declare(alloc, name, open, is_paren(tokens.get(k + 1)));
+                Token::Name(name) if is_declared => {
+                    let is_function = matches!(
+                        tokens.get(k + 1),
+                        Some(Token::The(Mark::LeftParen))
+                    );
+                    names.declare(alloc, name, open, is_function);
                 }
                 Token::The(Mark::LeftParen | Mark::LeftBrace) => open = open.saturating_add(1),
                 Token::The(Mark::RightParen | Mark::RightBrace) => open = open.saturating_sub(1),
@@ -119,21 +116,14 @@ impl<'t> Names<'t> {
         Some(self.spelling(*name))
     }
 
-    /// Reports whether an earlier local of the function has the same name.
-    fn is_again(&self, function: usize, number: usize, name: &str) -> bool {
-        (0..number).any(|other| self.local(function, other) == Some(name))
-    }
-
     /// Returns the pseudo-register of a function, as it is shown.
     pub(crate) fn register(&self, function: usize, register: u32) -> RegisterName<'t> {
         let number = register as usize;
-        let (name, is_named) = match self.local(function, number) {
-            Some(name) => (name, !self.is_again(function, number, name)),
-            None => ("", false),
-        };
+        let name = self.local(function, number);
+        let is_again = (0..number).any(|earlier| self.local(function, earlier) == name);
         RegisterName {
-            name,
-            number: (!is_named).then_some(register),
+            name: name.unwrap_or(""),
+            number: (name.is_none() || is_again).then_some(register),
         }
     }
 }

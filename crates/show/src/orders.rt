@@ -22,14 +22,6 @@ fn verdict_by<'a>(alloc: Global, block: &'a Block, room: Room) -> Result<Verdict
     Ok(validate(alloc, &table, &mut pass, block, order))
 }
 
-/// Returns the verdict on the order that is proposed for a block.
-fn verdict_on<'a>(alloc: Global, block: &'a Block) -> Result<Verdict<'a>, AllocError> {
-    match verdict_by(alloc, block, Room::Few)? {
-        Verdict::Full => verdict_by(alloc, block, Room::Many),
-        verdict => Ok(verdict),
-    }
-}
-
 /// Writes a block after a margin, without its Nops: a block has no delays, so they do nothing.
 pub(crate) fn put_needed(out: &mut Writer, block: &Block, margin: &str, end: &str) {
     for inst in block.insts() {
@@ -59,7 +51,11 @@ pub(crate) fn put_settled(
     block: &Block,
 ) -> Result<(), AllocError> {
     out.text(": ");
-    match verdict_on(alloc, block)? {
+    let verdict = match verdict_by(alloc, block, Room::Few)? {
+        Verdict::Full => verdict_by(alloc, block, Room::Many)?,
+        verdict => verdict,
+    };
+    match verdict {
         Verdict::Same(checked) => {
             out.text("same\n");
             put_order(out, &checked.into_order(), "    ", "\n");

@@ -14,9 +14,8 @@ use crate::orders::{put_check, put_needed, put_settled};
 use crate::rtl_text::RtlView;
 use crate::wanted::{Asked, ShowFault, Stage, Wanted};
 use explain::put_left;
-use image::Image;
 use list_scheduler::{FilledOrder, ListOrder};
-use mblock::{Block, BlockNumber, Exit, Order, Unit};
+use mblock::{BlockNumber, Exit, Unit};
 use mips_asm::{assemble, list};
 use mips_homes::{Frame, place};
 use rtl::{RBlock, Rtl};
@@ -79,26 +78,24 @@ impl<'a> View<'a> {
         Some((view, blocks))
     }
 
-    /// Writes a block in one of the stages of blocks.
-    fn put_block(&self, out: &mut Writer, stage: Stage, block: &Block) -> Result<(), AllocError> {
-        if stage == Stage::Orders {
-            return put_settled(self.alloc, out, block);
-        }
-        out.text("\n");
-        if stage == Stage::Terms {
-            return put_left(self.alloc, out, block, DEPTH);
-        }
-        put_needed(out, block, "    ", "\n");
-        Ok(())
-    }
-
+    /// Writes the blocks of a function in one of their stages.
     fn put_blocks(&self, out: &mut Writer, stage: Stage, number: usize) -> Result<(), AllocError> {
         let range = self.range(number);
         for (k, block) in range.of(self.shown.unit.blocks()).iter().enumerate() {
             let k = range.from.saturating_add(k);
             if self.wanted.has_block(k) {
                 put_heading(out, k, self.callee(block.exit()));
-                self.put_block(out, stage, block)?;
+                match stage {
+                    Stage::Orders => put_settled(self.alloc, out, block)?,
+                    Stage::Terms => {
+                        out.text("\n");
+                        put_left(self.alloc, out, block, DEPTH)?;
+                    }
+                    _ => {
+                        out.text("\n");
+                        put_needed(out, block, "    ", "\n");
+                    }
+                }
             }
         }
         Ok(())
@@ -181,23 +178,7 @@ impl<'a> View<'a> {
         Ok(())
     }
 
-    /// Writes an image that has the blocks in these orders, as assembler source or as a listing.
-    fn put_made(
-        &self,
-        out: &mut Writer,
-        image: &Image,
-        orders: &[Order],
-    ) -> Result<(), AllocError> {
-        if self.wanted.stage == Some(Stage::Asm) {
-            let labels = self.labels(orders)?;
-            return put_source(self.alloc, out, image, labels.as_slice());
-        }
-        let listing = list(self.alloc, image)?;
-        self.put_listing(out, orders, listing.as_str());
-        Ok(())
-    }
-
-    /// Writes what is made of the whole image, each block in its order. It is a fault if memory ran out for one of them: that one would keep
+    /// Writes the whole image, each block in its order, as assembler source or as a listing. It is a fault if memory ran out for one of them: that one would keep
     /// its own order.
     fn put_image(&self, out: &mut Writer) -> Result<(), ShowFault> {
         let Some(options) = PhaseOpts::new(1, 65536, 1024) else {
@@ -209,19 +190,24 @@ impl<'a> View<'a> {
             return Err(ShowFault::NoMemory);
         }
         let image = assemble(self.alloc, &scheduled)?;
-        Ok(self.put_made(out, &image, scheduled.orders())?)
-    }
-
-    fn put_checked(&self, out: &mut Writer) -> Result<(), AllocError> {
-        let number = self.wanted.checked(self.ranges.as_slice());
-        match self.shown.unit.blocks().get(number) {
-            Some(block) => put_check(self.alloc, out, block),
-            None => Ok(()),
+        let orders = scheduled.orders();
+        if self.wanted.stage == Some(Stage::Asm) {
+            let labels = self.labels(orders)?;
+            return Ok(put_source(self.alloc, out, &image, labels.as_slice())?);
         }
+        let listing = list(self.alloc, &image)?;
+        self.put_listing(out, orders, listing.as_str());
+        Ok(())
     }
 
-    /// Writes RTL, blocks and orders of a function.
-    fn put_stages(&self, out: &mut Writer, number: usize) -> Result<(), AllocError> {
+    /// Writes all that is asked of a function: RTL, blocks and orders, if no stage is.
+    fn put_asked(&self, out: &mut Writer, number: usize) -> Result<(), AllocError> {
+        if self.wanted.dot {
+            return self.put_graph(out, number);
+        }
+        if let Some(stage) = self.wanted.stage {
+            return self.put_function(out, stage, number);
+        }
         if number > 0 {
             out.text("rtl: ");
             self.put_function(out, Stage::Rtl, number)?;
@@ -232,32 +218,16 @@ impl<'a> View<'a> {
         self.put_function(out, Stage::Orders, number)
     }
 
-    /// Writes all that is asked of a function.
-    fn put_asked(&self, out: &mut Writer, number: usize) -> Result<(), AllocError> {
-        if self.wanted.dot {
-            return self.put_graph(out, number);
-        }
-        match self.wanted.stage {
-            Some(stage) => self.put_function(out, stage, number),
-            None => self.put_stages(out, number),
-        }
-    }
-
-    /// Returns the first function that is shown: the code that calls main has neither RTL nor homes.
-    fn first(&self) -> usize {
-        match self.wanted.stage {
-            Some(Stage::Rtl | Stage::Homes) => 1,
-            _ => 0,
-        }
-    }
-
+    /// Writes what is asked of each function, or of the one that is named.
     fn put_all(&self, out: &mut Writer) -> Result<(), AllocError> {
         if self.wanted.dot {
             out.text("digraph blocks {\n  node [shape=box fontname=monospace];\n");
         }
-        let (first, end) = match self.wanted.only {
-            Some(number) => (number, number.saturating_add(1)),
-            None => (self.first(), self.ranges.len()),
+        let (first, end) = match (self.wanted.only, self.wanted.stage) {
+            (Some(number), _) => (number, number.saturating_add(1)),
+            // the code that calls main has neither RTL nor homes
+            (None, Some(Stage::Rtl | Stage::Homes)) => (1, self.ranges.len()),
+            (None, _) => (0, self.ranges.len()),
         };
         for number in first..end {
             self.put_asked(out, number)?;
@@ -268,21 +238,21 @@ impl<'a> View<'a> {
         Ok(())
     }
 
-    /// Writes what is asked for.
-    fn put(&self, out: &mut Writer) -> Result<(), ShowFault> {
-        match self.wanted.stage {
-            Some(Stage::Listing | Stage::Asm) if !self.wanted.dot => self.put_image(out),
-            Some(Stage::Check) if !self.wanted.dot => Ok(self.put_checked(out)?),
-            _ => Ok(self.put_all(out)?),
-        }
-    }
-
     /// Returns what is asked for. Lines that another program reads aren't cut.
     fn page(&self) -> Result<Page, ShowFault>
         ensures { IfOk result (All IsShown) }
     {
         let mut out = Writer::new(self.alloc);
-        self.put(&mut out)?;
+        match self.wanted.stage {
+            Some(Stage::Listing | Stage::Asm) if !self.wanted.dot => self.put_image(&mut out)?,
+            Some(Stage::Check) if !self.wanted.dot => {
+                let number = self.wanted.checked(self.ranges.as_slice());
+                if let Some(block) = self.shown.unit.blocks().get(number) {
+                    put_check(self.alloc, &mut out, block)?;
+                }
+            }
+            _ => self.put_all(&mut out)?,
+        }
         let page = out.end()?;
         if self.wanted.dot || self.wanted.stage == Some(Stage::Asm) {
             return Ok(page);

@@ -1,7 +1,7 @@
 //! RTL as text.
 
 use crate::listing::put_heading;
-use crate::names::Names;
+use crate::names::{Names, RegisterName};
 use crate::wanted::Wanted;
 use mblock::BlockNumber;
 use rtl::{Op, RBlock, RExit, RGlobal, RInst, Register};
@@ -42,28 +42,17 @@ fn sign(op: Op) -> &'static str {
 }
 
 impl<'a> RtlView<'a> {
-    /// Writes words, and a register.
-    fn put_register(&self, out: &mut Writer, words: &str, register: Register) {
-        out.text(words);
-        out.put(&self.names.register(self.function, register));
-    }
-
-    /// Writes what gets a value.
-    fn put_target(&self, out: &mut Writer, register: Register) {
-        self.put_register(out, "", register);
-        out.text(" = ");
-    }
-
-    fn is_array(&self, global: u32) -> bool {
-        !matches!(self.globals.get(global as usize), Some(global) if global.length <= 1)
+    /// Returns a register as it is shown.
+    fn register(&self, register: Register) -> RegisterName<'a> {
+        self.names.register(self.function, register)
     }
 
     /// Writes an element of a global; a variable by its name alone.
     fn element(&self, out: &mut Writer, global: u32, index: Register) {
-        out.text(self.names.global(global as usize));
-        if self.is_array(global) {
-            self.put_register(out, "[", index);
-            out.text("]");
+        let name = self.names.global(global as usize);
+        match self.globals.get(global as usize) {
+            Some(global) if global.length <= 1 => out.text(name),
+            _ => out.put(&format_args!("{name}[{}]", self.register(index))),
         }
     }
 
@@ -71,25 +60,22 @@ impl<'a> RtlView<'a> {
     fn inst(&self, out: &mut Writer, inst: RInst) {
         match inst {
             RInst::Const(to, word) => {
-                self.put_target(out, to);
-                out.put(&word.cast_signed());
+                out.put(&format_args!("{} = {}", self.register(to), word.cast_signed()));
             }
             RInst::Move(to, from) => {
-                self.put_register(out, "", to);
-                self.put_register(out, " = ", from);
+                out.put(&format_args!("{} = {}", self.register(to), self.register(from)));
             }
             RInst::Bin(op, to, left, right) => {
-                self.put_register(out, "", to);
-                self.put_register(out, " = ", left);
-                self.put_register(out, sign(op), right);
+                let (left, right) = (self.register(left), self.register(right));
+                out.put(&format_args!("{} = {left}{}{right}", self.register(to), sign(op)));
             }
             RInst::Load(to, global, index) => {
-                self.put_target(out, to);
+                out.put(&format_args!("{} = ", self.register(to)));
                 self.element(out, global, index);
             }
             RInst::Store(global, index, from) => {
                 self.element(out, global, index);
-                self.put_register(out, " = ", from);
+                out.put(&format_args!(" = {}", self.register(from)));
             }
         }
     }
@@ -102,44 +88,33 @@ impl<'a> RtlView<'a> {
         }
     }
 
-    fn call(&self, out: &mut Writer, function: u32, arguments: &[Register]) {
-        out.text(self.names.function(function as usize));
-        out.text("(");
-        let mut before = "";
-        for argument in arguments {
-            self.put_register(out, before, *argument);
-            before = ", ";
-        }
-        out.text(")");
-    }
-
-    /// Writes words, and the number of a block.
-    fn put_block(&self, out: &mut Writer, words: &str, block: u32) {
-        out.text(words);
-        out.put(&self.number(block as usize));
-    }
-
     /// Writes how a block is left.
     fn exit(&self, out: &mut Writer, exit: &RExit) {
         match exit {
-            RExit::Goto(block) => self.put_block(out, "goto ", *block),
+            RExit::Goto(block) => out.put(&format_args!("goto {}", self.number(*block as usize))),
             RExit::Branch(test, then, other) => {
-                self.put_register(out, "if ", *test);
-                self.put_block(out, " goto ", *then);
-                self.put_block(out, " else ", *other);
+                let (then, other) = (self.number(*then as usize), self.number(*other as usize));
+                out.put(&format_args!("if {} goto {then} else {other}", self.register(*test)));
             }
             RExit::Call(function, arguments, to, next) => {
                 if let Some(to) = to {
-                    self.put_target(out, *to);
+                    out.put(&format_args!("{} = ", self.register(*to)));
                 }
-                self.call(out, *function, arguments.as_slice());
-                self.put_block(out, ", then ", *next);
+                out.put(&format_args!("{}(", self.names.function(*function as usize)));
+                let mut before = "";
+                for argument in arguments.iter() {
+                    out.put(&format_args!("{before}{}", self.register(*argument)));
+                    before = ", ";
+                }
+                out.put(&format_args!("), then {}", self.number(*next as usize)));
             }
             RExit::Return(None) => out.text("return"),
-            RExit::Return(Some(from)) => self.put_register(out, "return ", *from),
+            RExit::Return(Some(from)) => {
+                out.put(&format_args!("return {}", self.register(*from)));
+            }
             RExit::Out(from, next) => {
-                self.put_register(out, "out ", *from);
-                self.put_block(out, ", then ", *next);
+                let next = self.number(*next as usize);
+                out.put(&format_args!("out {}, then {next}", self.register(*from)));
             }
         }
     }
