@@ -43,12 +43,12 @@ impl<'t> Names<'t> {
         let mut before = None;
         let mut open = 0usize;
         for (k, token) in tokens.iter().enumerate() {
-            let is_declared = matches!(
+            let is_after_type = matches!(
                 before,
                 Some(Token::The(Mark::Int | Mark::Unsigned | Mark::Char | Mark::Void))
             );
             match *token {
-                Token::Name(name) if is_declared => {
+                Token::Name(name) if is_after_type => {
                     let is_function = matches!(
                         tokens.get(k + 1),
                         Some(Token::The(Mark::LeftParen))

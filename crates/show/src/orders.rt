@@ -32,19 +32,8 @@ pub(crate) fn put_needed(out: &mut Writer, block: &Block, margin: &str, end: &st
     out.put(&format_args!("{margin}{}{end}", ExitLine(block.exit())));
 }
 
-/// Writes the order that was refused, why it is wrong, if that was found, and the plain one, which is taken.
-fn put_refused(alloc: Global, out: &mut Writer, block: &Block) -> Result<(), AllocError> {
-    let refused = proposed_order(alloc, block)?;
-    out.text("    proposed:\n");
-    put_order(out, &refused, "      ", "\n");
-    put_found(alloc, out, block, &refused)?;
-    out.text("    taken:\n");
-    put_order(out, &plain(alloc, block)?, "      ", "\n");
-    Ok(())
-}
-
 /// Writes the verdict on the order that is proposed for a block, in the words of `mcc check`, and the order that is taken. One that was
-/// refused stands before it.
+/// refused stands before it, with why it is wrong, if that was found.
 pub(crate) fn put_settled(
     alloc: Global,
     out: &mut Writer,
@@ -69,8 +58,13 @@ pub(crate) fn put_settled(
         Verdict::Full => out.text("full"),
         Verdict::NoMemory => return Err(AllocError),
     }
-    out.text("\n");
-    put_refused(alloc, out, block)
+    let refused = proposed_order(alloc, block)?;
+    out.text("\n    proposed:\n");
+    put_order(out, &refused, "      ", "\n");
+    put_found(alloc, out, block, &refused)?;
+    out.text("    taken:\n");
+    put_order(out, &plain(alloc, block)?, "      ", "\n");
+    Ok(())
 }
 
 /// Writes a block without its Nops and the order that is proposed for it, as `mcc check` reads them.

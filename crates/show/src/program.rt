@@ -178,8 +178,8 @@ impl<'a> View<'a> {
         Ok(())
     }
 
-    /// Writes the whole image, each block in its order, as assembler source or as a listing. It is a fault if memory ran out for one of them: that one would keep
-    /// its own order.
+    /// Writes the whole image, each block in its order, as assembler source or as a listing. It is a fault if memory ran out for one of the
+    /// blocks: that one would keep its own order.
     fn put_image(&self, out: &mut Writer) -> Result<(), ShowFault> {
         let Some(options) = PhaseOpts::new(1, 65536, 1024) else {
             return Ok(());
