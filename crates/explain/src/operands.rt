@@ -77,7 +77,8 @@ fn with_number(word: &[u8], operands: &[u8]) -> Option<&'static str> {
     (least <= number && number <= greatest).then_some(found.name())
 }
 
-/// Says what to write in place of a line with this mnemonic, where one of its operands is an assembler's. Reports whether it said something.
+/// Says what to write in place of a line with this mnemonic, where one of its operands is an assembler's. Reports whether it said
+/// something.
 pub(crate) fn say_hint_of_operands(said: &mut Said, word: &[u8], line: &[u8]) -> bool {
     let Some(halves) = cut(line, b' ') else {
         return false;
