@@ -81,7 +81,7 @@ const STATEMENT: &str = "a statement is an assignment or a call: x = x + 1; f(x)
 #[rattlefmt::skip]
 const CALL_HINTS: &[(&[Fact], &str)] = &[
     (&[InFunction, Is(Mark::LeftParen), AfterDeclared],
-        "a local has its value behind '=': int x = 1; functions stand at file scope"),
+        "a local has its value behind '=': int x = 1;"),
     (&[InFunction, Is(Mark::LeftParen), AfterName, BeginsWithReturn],
         "a call stands alone or behind 'name =': int r; r = f(1); return r;"),
     (&[InFunction, Is(Mark::LeftParen), AfterName, Before(2, Mark::Assign), Before(3, Mark::RightBracket)],
