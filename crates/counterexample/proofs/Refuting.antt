@@ -9,8 +9,6 @@ use Rattle.std.proofs.lemmas.Option.{same_Some, none-some}
 use Rattle.mblock.specs.BlockMeaning.{Effect}
 use Rattle.counterexample.specs.declared.difference.Difference.{Difference}
 use Rattle.counterexample.specs.declared.difference.Difference.TheVariants as differences
-use Rattle.counterexample.specs.declared.search.Witness.{Witness}
-use Rattle.counterexample.specs.Views.{start_of}
 use Rattle.counterexample.specs.Refuting.{DiffersIn, Refutes, RefutedOrdersDoNotMeanTheirBlocks, NoRefutingStateAgrees}
 
 apart : {A : Type 0} (part : Effect → A) (x : Effect) (y : Option Effect) → (z : Effect) × (y ≡ Some z) × (part x ≢ part z) → y ≡ Some x → ⊥
@@ -36,8 +34,3 @@ pub no_meaning : (b : BlockParts) (o : OrderParts) (s : State) (link : ℕ) (r :
     → IfOk r (λ x. IfSome x (λ d. Refutes b o s link d)) → IfOk r (λ x. IfSome x (λ d. Means b o → ⊥))
 no_meaning b o s link (Ok (Some d)) h = refuted b o s link d h
 no_meaning b o s link _ h = tt
-
-pub witness_no_meaning : (b : BlockParts) (o : OrderParts) (r : Result (Option Witness) AllocError)
-    → IfOk r (λ x. IfSome x (λ w. Refutes b o (start_of w.start) w.link w.difference)) → IfOk r (λ x. IfSome x (λ w. Means b o → ⊥))
-witness_no_meaning b o (Ok (Some w)) h = refuted b o (start_of w.start) w.link w.difference h
-witness_no_meaning b o _ h = tt

@@ -8,15 +8,6 @@ use std::alloc::{AllocError, Global};
 /// At most so many pairs are tried.
 const PAIRS: usize = 64;
 
-fn is_access(inst: &Plain) -> bool {
-    access_of(&inst.action()).is_some()
-}
-
-/// Reports whether one of two accesses is a store.
-fn has_store(one: &Plain, other: &Plain) -> bool {
-    !one.action().is_load() || !other.action().is_load()
-}
-
 /// Reports whether two instructions have one base, which isn't written from the first on: so the offsets tell whether they meet.
 fn is_one_base(insts: &[Plain], pair: Pair) -> bool {
     let between = insts.get(pair.first..pair.second).unwrap_or_default();
@@ -39,20 +30,6 @@ struct Waiting<'b> {
 }
 
 impl<'b> Waiting<'b> {
-    fn of(alloc: Global, insts: &'b [Plain]) -> Result<Waiting<'b>, AllocError> {
-        let mut places = Vec::new(alloc);
-        for (place, inst) in insts.iter().enumerate() {
-            if is_access(inst) {
-                places.push(place)?;
-            }
-        }
-        Ok(Waiting {
-            insts,
-            places,
-            pairs: Vec::new(alloc),
-        })
-    }
-
     /// Notes that the order does this instruction: it passes the accesses that still wait before it.
     fn does(&mut self, inst: &Plain) -> Result<(), AllocError> {
         let insts = self.insts;
@@ -64,21 +41,15 @@ impl<'b> Waiting<'b> {
             return Ok(());
         };
         let second = self.places.remove(number);
-        for k in 0..number {
-            if let Some(first) = self.places.get(k).copied() {
-                self.put_pair(inst, Pair { first, second })?;
+        for first in self.places.iter().take(number).copied() {
+            let pair = Pair { first, second };
+            if let Some(passed) = insts.get(first)
+                && !(passed.action().is_load() && inst.action().is_load())
+                && !is_one_base(insts, pair)
+                && self.pairs.len() < PAIRS
+            {
+                self.pairs.push(pair)?;
             }
-        }
-        Ok(())
-    }
-
-    fn put_pair(&mut self, inst: &Plain, pair: Pair) -> Result<(), AllocError> {
-        if let Some(passed) = self.insts.get(pair.first)
-            && has_store(passed, inst)
-            && !is_one_base(self.insts, pair)
-            && self.pairs.len() < PAIRS
-        {
-            self.pairs.push(pair)?;
         }
         Ok(())
     }
@@ -90,7 +61,18 @@ pub(crate) fn crossings(
     block: &Block,
     order: &Order,
 ) -> Result<Vec<Pair>, AllocError> {
-    let mut waiting = Waiting::of(alloc, block.insts())?;
+    let insts = block.insts();
+    let mut places = Vec::new(alloc);
+    for (place, inst) in insts.iter().enumerate() {
+        if access_of(&inst.action()).is_some() {
+            places.push(place)?;
+        }
+    }
+    let mut waiting = Waiting {
+        insts,
+        places,
+        pairs: Vec::new(alloc),
+    };
     for inst in order.insts() {
         waiting.does(inst)?;
     }

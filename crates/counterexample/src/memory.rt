@@ -1,6 +1,6 @@
 //! Memory: what fills it at the start, and the stores since.
-ghost use Rattle.std.specs.Prelude.{◌≡◌, ◌+◌, ◌*◌, ◌<◌, ◌^◌, ◌%◌, IfOk, IfSome, is_some, true, ◌&&◌};
-ghost use Rattle.mips_isa.specs.States.{is_aligned, is_open, is_inside, load_at, store_at};
+ghost use Rattle.std.specs.Prelude.{◌≡◌, IfOk, IfSome, is_some, true};
+ghost use Rattle.mips_isa.specs.States.{is_open, load_at, store_at};
 ghost use Rattle.counterexample.specs.Memories.{everywhere, bytes_of, byte_behind};
 
 use crate::filling::{Filling, byte_at_place};
@@ -22,23 +22,6 @@ pub struct Memory {
     pub stores: Vec<Stored>,
 }
 
-/// Reports whether a word or a byte may stand at the address.
-fn is_aligned(width: Width, a: u32) -> bool
-    ensures { result ≡ is_open width everywhere a }
-{
-    match width {
-        Width::Word => a % 4 == 0,
-        Width::Byte => true,
-    }
-}
-
-/// Reports whether an address is in the word at another.
-fn is_inside(a: u32, b: u32) -> bool
-    ensures { result ≡ is_inside a b }
-{
-    a <= b && u64::from(b) < u64::from(a) + 4
-}
-
 impl Stored {
     /// Returns the byte at an address after the store, where this one stands before.
     #[tactic(auto, unfolding(mips_isa::specs::States::store_word, mips_isa::specs::States::store_byte))]
@@ -46,18 +29,11 @@ impl Stored {
         ensures { result ≡ byte_behind self.now a before }
     {
         match self.width {
-            Width::Word => {
-                if is_aligned(Width::Word, self.address) && is_inside(self.address, a) {
-                    byte_at_place(self.word, (a - self.address) as usize)
-                } else {
-                    before
-                }
+            Width::Word if self.address % 4 == 0 && self.address <= a && a - self.address < 4 => {
+                byte_at_place(self.word, (a - self.address) as usize)
             }
-            Width::Byte => if a == self.address {
-                (self.word % 256) as u8
-            } else {
-                before
-            },
+            Width::Byte if a == self.address => (self.word % 256) as u8,
+            _ => before,
         }
     }
 }
@@ -74,26 +50,6 @@ impl Memory {
         byte
     }
 
-    /// Returns the byte at an address, as a word.
-    fn small(&self, a: u32) -> u32
-        ensures value { result ≡ bytes_of self.now a }
-        ensures small { result < 2 ^ 8 }
-    {
-        u32::from(self.byte(a))
-    }
-
-    /// Returns the four bytes from an address on.
-    fn word(&self, a: u32) -> u32
-        requires { a % 4 ≡ 0 }
-        ensures { result ≡ bytes_of self.now a * 2 ^ 24 + bytes_of self.now (a + 1) * 2 ^ 16 + bytes_of self.now (a + 2) * 2 ^ 8
-            + bytes_of self.now (a + 3) }
-    {
-        (self.small(a) << 24)
-            + (self.small(a + 1) << 16)
-            + (self.small(a + 2) << 8)
-            + self.small(a + 3)
-    }
-
     /// Returns the word at an address, or the byte, extended with zeros; None if no word may stand there.
     #[tactic(auto, unfolding(mips_isa::specs::States::load_word, mips_isa::specs::States::load_byte))]
     pub fn load(&self, width: Width, a: u32) -> Option<u32>
@@ -101,8 +57,14 @@ impl Memory {
         ensures word { IfSome result (λ w. w ≡ load_at width everywhere (bytes_of self.now) a) }
     {
         match width {
-            Width::Word => if a % 4 == 0 { Some(self.word(a)) } else { None },
-            Width::Byte => Some(self.small(a)),
+            Width::Word if a % 4 == 0 => Some(u32::from_be_bytes([
+                self.byte(a),
+                self.byte(a + 1),
+                self.byte(a + 2),
+                self.byte(a + 3),
+            ])),
+            Width::Word => None,
+            Width::Byte => Some(u32::from(self.byte(a))),
         }
     }
 
@@ -112,7 +74,7 @@ impl Memory {
         ensures bytes { IfOk result (λ b. b ≡ true → bytes_of self.new ≡ store_at width everywhere (bytes_of self.old) address word) }
         ensures filling { self.new.filling ≡ self.old.filling }
     {
-        if !is_aligned(width, address) {
+        if matches!(width, Width::Word) && address % 4 != 0 {
             return Ok(false);
         }
         self.stores.push(Stored {

@@ -3,7 +3,7 @@
 use crate::registers::Registers;
 use crate::start::Start;
 use mblock::Block;
-use mips_isa::{Action, Operand, Plain, Reg};
+use mips_isa::{Action, Operand, Reg};
 use std::alloc::{AllocError, Global};
 use words::{Operator, Width};
 
@@ -122,21 +122,6 @@ impl Tracing {
             origin: self.origin(base),
         })
     }
-
-    /// Does an instruction; false if it isn't safe.
-    fn step(&mut self, inst: &Plain) -> Result<bool, AllocError> {
-        let action = inst.action();
-        let after = self.origin_after(&action);
-        if !self.registers.act(action)? {
-            return Ok(false);
-        }
-        if let Some((d, origin)) = after
-            && d.index() != 0
-        {
-            self.origins[d.index() as usize] = origin;
-        }
-        Ok(true)
-    }
 }
 
 /// Runs a block from a start, and returns the accesses of two of its instructions, if a pair is asked for.
@@ -150,7 +135,8 @@ pub(crate) fn trace(
     let mut tracing = Tracing::of(alloc, start, takes_second);
     let (mut first, mut second) = (None, None);
     for (k, inst) in block.insts().iter().enumerate() {
-        let access = tracing.access(&inst.action());
+        let action = inst.action();
+        let access = tracing.access(&action);
         if let Some(pair) = pair {
             if k == pair.first {
                 first = access;
@@ -159,8 +145,14 @@ pub(crate) fn trace(
                 second = access;
             }
         }
-        if !tracing.step(inst)? {
+        let after = tracing.origin_after(&action);
+        if !tracing.registers.act(action)? {
             return Ok(Traced::Stuck(access));
+        }
+        if let Some((d, origin)) = after
+            && d.index() != 0
+        {
+            tracing.origins[d.index() as usize] = origin;
         }
     }
     Ok(Traced::Ran(first, second))

@@ -66,21 +66,6 @@ fn word_of_kind(kind: u32, base: u32, word: u32) -> u32 {
     }
 }
 
-fn filling_of_kind(kind: u32, base: u32, word: u32) -> Filling {
-    let (base, mask) = match kind {
-        0 => (base, 0x7c),
-        1 => (0x2000_0000, 0x00ff_fffc),
-        2 => (base, 0xfc),
-        _ => (word, 0xffff_ffff),
-    };
-    Filling {
-        base,
-        mask,
-        factor: 0x9e37_79b1,
-        offset: word,
-    }
-}
-
 /// Returns a base near which addresses meet: that of the data, or a word that the block itself puts into a register's upper half.
 fn base_of(block: &Block, number: u32) -> u32 {
     let mut base = 0x1000_0000;
@@ -106,11 +91,23 @@ fn start_of_kind(kind: u32, base: u32, seed: u32) -> Start {
     }
     let hi = mixed(word);
     let lo = mixed(hi);
+    let (base, mask) = match kind {
+        0 => (base, 0x7c),
+        1 => (0x2000_0000, 0x00ff_fffc),
+        2 => (base, 0xfc),
+        _ => (lo, 0xffff_ffff),
+    };
+    let filling = Filling {
+        base,
+        mask,
+        factor: 0x9e37_79b1,
+        offset: lo,
+    };
     Start {
         regs,
         hi,
         lo,
-        filling: filling_of_kind(kind, base, lo),
+        filling,
     }
 }
 
@@ -127,19 +124,15 @@ fn shift(start: &mut Start, origin: Origin, by: u32) -> bool {
     true
 }
 
-/// Returns how far the first access is from where it meets the second: a byte meets a word in one of its four bytes.
-fn distance(first: &Access, second: &Access, lane: u32) -> u32 {
-    let by = second.address.wrapping_sub(first.address);
-    match (first.width, second.width) {
-        (Width::Byte, Width::Word) => by.wrapping_add(lane),
-        (Width::Word, Width::Byte) => by.wrapping_sub(lane),
-        _ => by,
-    }
-}
-
 /// Makes two accesses meet, if their addresses follow different things; false if nothing was changed.
 fn meet(start: &mut Start, first: &Access, second: &Access, bits: u32) -> bool {
-    let by = distance(first, second, bits & 3);
+    let apart = second.address.wrapping_sub(first.address);
+    // a byte meets a word in one of its four bytes
+    let by = match (first.width, second.width) {
+        (Width::Byte, Width::Word) => apart.wrapping_add(bits & 3),
+        (Width::Word, Width::Byte) => apart.wrapping_sub(bits & 3),
+        _ => apart,
+    };
     if by == 0 || first.origin == second.origin {
         return false;
     }
@@ -151,27 +144,6 @@ fn meet(start: &mut Start, first: &Access, second: &Access, bits: u32) -> bool {
     }
 }
 
-/// Changes a start so that the block runs farther, or its two accesses meet; false if nothing was changed.
-fn change(
-    alloc: Global,
-    block: &Block,
-    start: &mut Start,
-    pair: Option<Pair>,
-    bits: u32,
-) -> Result<bool, AllocError> {
-    match trace(alloc, block, start, pair, bits & 4 != 0)? {
-        Traced::Stuck(Some(at)) => Ok(shift(start, at.origin, (at.address & 3).wrapping_neg())),
-        Traced::Ran(Some(first), Some(second)) => Ok(meet(start, &first, &second, bits)),
-        _ => Ok(false),
-    }
-}
-
-/// Returns the pair whose turn it is.
-fn pair_number(pairs: &[Pair], number: u32) -> Option<Pair> {
-    let turn = (number as usize / 2).checked_rem(pairs.len())?;
-    pairs.get(turn).copied()
-}
-
 /// Returns the start with this number, of those for a block and pairs of its accesses that may meet.
 fn start_number(
     alloc: Global,
@@ -181,11 +153,20 @@ fn start_number(
 ) -> Result<Start, AllocError> {
     let base = base_of(block, number / 8 % 4);
     let mut start = start_of_kind(number % 4, base, number.wrapping_add(0x2545_f491));
-    let pair = pair_number(pairs, number);
+    let turn = (number as usize / 2).checked_rem(pairs.len()).unwrap_or(0);
+    let pair = pairs.get(turn).copied();
     let bits = mixed(number.wrapping_add(0x1234_5678));
     for _ in 0..CHANGES {
-        if !change(alloc, block, &mut start, pair, bits)? {
-            return Ok(start);
+        // so that the block runs farther, or its two accesses meet
+        let changed = match trace(alloc, block, &start, pair, bits & 4 != 0)? {
+            Traced::Stuck(Some(at)) => {
+                shift(&mut start, at.origin, (at.address & 3).wrapping_neg())
+            }
+            Traced::Ran(Some(first), Some(second)) => meet(&mut start, &first, &second, bits),
+            _ => false,
+        };
+        if !changed {
+            break;
         }
     }
     Ok(start)
@@ -206,28 +187,6 @@ fn starts_for(block: &Block) -> u32 {
     (0x2000 / work.max(1)).max(8).min(STARTS)
 }
 
-/// Returns one of the starts for a block and pairs of its accesses that refutes that the order means the block.
-fn find_by(
-    alloc: Global,
-    block: &Block,
-    order: &Order,
-    pairs: &[Pair],
-) -> Result<Option<Witness>, AllocError>
-    ensures refutes { IfOk result (λ r. IfSome r (λ w. Refutes block.now order.now (start_of w.start) w.link w.difference)) }
-{
-    for number in 0..starts_for(block) {
-        let start = start_number(alloc, block, pairs, number)?;
-        if let Some(difference) = refute(alloc, block, order, &start, LINK)? {
-            return Ok(Some(Witness {
-                start,
-                link: LINK,
-                difference,
-            }));
-        }
-    }
-    Ok(None)
-}
-
 /// Returns a start of a fixed list that refutes that the order means the block; None if none of them does. The list has starts in which two
 /// accesses meet that the order has the other way round. `Err` only if memory runs out.
 pub fn find_start(
@@ -239,5 +198,15 @@ pub fn find_start(
     ensures means { IfOk result (λ r. IfSome r (λ w. Means block.now order.now → ⊥)) }
 {
     let pairs = crossings(alloc, block, order)?;
-    find_by(alloc, block, order, pairs.as_slice())
+    for number in 0..starts_for(block) {
+        let start = start_number(alloc, block, pairs.as_slice(), number)?;
+        if let Some(difference) = refute(alloc, block, order, &start, LINK)? {
+            return Ok(Some(Witness {
+                start,
+                link: LINK,
+                difference,
+            }));
+        }
+    }
+    Ok(None)
 }
