@@ -38,28 +38,22 @@ fn first_register(a: &Registers, b: &Registers) -> Option<Reg>
     None
 }
 
-/// Returns a byte of the word at an address that differs.
-fn byte_of_word(a: &Memory, b: &Memory, address: u32) -> Option<u32>
-    requires { address % 4 ≡ 0 }
-    ensures some { IfSome result (λ x. bytes_of a.now x ≢ bytes_of b.now x) }
-    ensures none { IfNone result ((k : ℕ) → k < 4 → bytes_of a.now (address + k) ≡ bytes_of b.now (address + k)) }
-{
-    for k in 0..4u32 {
-        if a.byte(address + k) != b.byte(address + k) {
-            return Some(address + k);
-        }
-    }
-    None
-}
-
 /// Returns a byte that a store reaches and that differs.
 fn byte_of_store(a: &Memory, b: &Memory, stored: &Stored) -> Option<u32>
     ensures some { IfSome result (λ x. bytes_of a.now x ≢ bytes_of b.now x) }
     ensures none { IfNone result (SameReached a.now b.now stored.now) }
 {
+    let address = stored.address;
     match stored.width {
-        Width::Word if stored.address % 4 == 0 => byte_of_word(a, b, stored.address),
-        Width::Byte if a.byte(stored.address) != b.byte(stored.address) => Some(stored.address),
+        Width::Word if address % 4 == 0 => {
+            for k in 0..4u32 {
+                if a.byte(address + k) != b.byte(address + k) {
+                    return Some(address + k);
+                }
+            }
+            None
+        }
+        Width::Byte if a.byte(address) != b.byte(address) => Some(address),
         _ => None,
     }
 }

@@ -157,7 +157,7 @@ fn start_number(
     let pair = pairs.get(turn).copied();
     let bits = mixed(number.wrapping_add(0x1234_5678));
     for _ in 0..CHANGES {
-        // so that the block runs farther, or its two accesses meet
+        // a change makes the block run farther, or its two accesses meet
         let changed = match trace(alloc, block, &start, pair, bits & 4 != 0)? {
             Traced::Stuck(Some(at)) => {
                 shift(&mut start, at.origin, (at.address & 3).wrapping_neg())
