@@ -1,16 +1,15 @@
 //! The verdict of a check text, or its fault.
-ghost use Rattle.std.specs.Prelude.{◌≡◌, ◌≤◌, ◌^◌, length, IfOk, IfErr, IfSome, MatchResult, All};
+ghost use Rattle.std.specs.Prelude.{◌≡◌, ◌≤◌, ◌^◌, length, IfOk, IfErr, MatchResult};
 ghost use Rattle.mblock.specs.Parts.{BlockParts, OrderParts};
 ghost use Rattle.block_text.specs.Lines.{lines_of};
 ghost use Rattle.block_text.specs.Whole.{SpellsPair};
-ghost use Rattle.term_table.specs.Passes.{IsOf};
 ghost use Rattle.driver.specs.Checks.{IsAnswer, IsCheckFault};
 
 use block_text::{PairFault, Text, read};
 use block_validator::{Place, Verdict, validate};
 use mblock::{Block, Order, Unclean};
 use std::alloc::Global;
-use term_table::{OpenFault, Pass, TermTable};
+use term_table::{OpenFault, TermTable};
 
 /// The verdict on the order of a text.
 #[derive(Clone, Copy, Debug, PartialEq, Eq)]
@@ -40,35 +39,14 @@ pub enum CheckFault {
 /// The most bytes of a text that has a verdict.
 pub const LONGEST: usize = 1_048_576;
 
-/// Returns a table for one pass, of 16,384 nodes and 256 heads.
-fn table(alloc: Global) -> Option<(TermTable, Vec<Pass>)>
-    ensures each { IfSome result (λ t. All (IsOf t.0) t.1.items) }
-    ensures one { IfSome result (λ t. length t.1.items ≡ 1) }
-{
-    match TermTable::open(alloc, 1, 16384, 256) {
-        Ok((table, passes)) => Some((table, passes)),
-        Err(OpenFault::NoMemory) => None,
-        Err(OpenFault::Range) => unreachable!(),
-    }
-}
-
-/// Returns the table and its pass; None only if memory ran out.
-fn open_table(alloc: Global) -> Option<(TermTable, Pass)>
-    ensures { IfSome result (λ t. IsOf t.0 t.1) }
-{
-    let (table, mut passes) = table(alloc)?;
-    let Some(pass) = passes.pop() else {
-        unreachable!();
-    };
-    Some((table, pass))
-}
-
 /// Returns the verdict on a block and an order; no other fault than refused memory.
 fn judge(alloc: Global, block: &Block, order: Order) -> Result<CheckAnswer, CheckFault>
     ensures { MatchResult result (IsAnswer block.now order) (λ e. e ≡ CheckFault.NoMemory) }
 {
-    let Some((table, mut pass)) = open_table(alloc) else {
-        return Err(CheckFault::NoMemory);
+    let (table, mut pass) = match TermTable::open_one(alloc, 16384, 256) {
+        Ok(opened) => opened,
+        Err(OpenFault::NoMemory) => return Err(CheckFault::NoMemory),
+        Err(OpenFault::Range) => unreachable!(),
     };
     match validate(alloc, &table, &mut pass, block, order) {
         Verdict::Same(_) => Ok(CheckAnswer::Same),
