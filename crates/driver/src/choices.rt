@@ -6,7 +6,7 @@ ghost use Rattle.driver.specs.Texts.{no_choice_text};
 
 use command_line::Choice;
 use host::{Complaints, FileError, tell, tell_file};
-use std::alloc::{AllocError, Global};
+use std::alloc::Global;
 use std::fmt;
 
 /// The line of such an option's fault.
@@ -29,10 +29,6 @@ fn option_and_names(choice: Choice) -> (&'static str, &'static str) {
     }
 }
 
-fn choice_message(alloc: Global, option: &str, value: &str) -> Result<String, AllocError> {
-    format!(in alloc; "{option} takes no '{value}'")
-}
-
 /// Tells the fault of an option that has none of its names, and below it which names it has.
 pub(crate) fn tell_choice<E: Complaints>(
     alloc: Global,
@@ -44,7 +40,7 @@ pub(crate) fn tell_choice<E: Complaints>(
     ensures told { TellsLine E.tells err.old no_choice_text err.new }
 {
     let (option, hint) = option_and_names(choice);
-    match choice_message(alloc, option, value) {
+    match format!(in alloc; "{option} takes no '{value}'") {
         Ok(message) => tell_file(
             alloc,
             err,

@@ -1,8 +1,6 @@
 //! The command that shows an image.
 
-ghost use Rattle.std.specs.Prelude.{ℕ, List, All, IfErr, IfOk, ⊤};
-ghost use Rattle.text.specs.Shown.{IsShown};
-ghost use Rattle.driver.specs.Listings.{IsListing, IsOfImage};
+ghost use Rattle.std.specs.Prelude.{ℕ, List, IfErr, IfOk, ⊤};
 ghost use Rattle.driver.specs.Program.{IsImagePage, listing_image};
 ghost use Rattle.image.specs.Images.{IsImageFault};
 
@@ -13,26 +11,6 @@ use host::{BadFile, Broken, Complaints, FileCommand, Output};
 use image::{ImageFault, read_image};
 use show::assembler_source;
 use std::alloc::Global;
-
-/// Returns the listing of an image's bytes, if they are those of one.
-fn listing_of(alloc: Global, bytes: &[u8]) -> Result<Vec<u8>, ImageFault>
-    ensures listed { IfOk result (λ page. IsListing bytes.now page.items) }
-    ensures fault { IfErr result (IsImageFault bytes.now) }
-{
-    let listing = list_image(alloc, bytes)?;
-    Ok(listing.into_bytes())
-}
-
-/// Returns the assembler source of an image's bytes, if they are those of one.
-fn source_of(alloc: Global, bytes: &[u8]) -> Result<Vec<u8>, ImageFault>
-    ensures image { IfOk result (λ _. IsOfImage bytes.now) }
-    ensures shown { IfOk result (λ page. All IsShown page.items) }
-    ensures fault { IfErr result (IsImageFault bytes.now) }
-{
-    let image = read_image(alloc, bytes)?;
-    let page = assembler_source(alloc, &image, &[])?;
-    Ok(page.into_bytes())
-}
 
 /// `mcc list`, or with `asm` `mcc list --asm`.
 #[derive(Clone, Copy)]
@@ -47,9 +25,12 @@ impl ImageCommand {
         ensures fault { IfErr result (IsImageFault bytes.now) }
     {
         if self.asm {
-            source_of(alloc, bytes)
+            let image = read_image(alloc, bytes)?;
+            let source = assembler_source(alloc, &image, &[])?;
+            Ok(source.into_bytes())
         } else {
-            listing_of(alloc, bytes)
+            let listing = list_image(alloc, bytes)?;
+            Ok(listing.into_bytes())
         }
     }
 }

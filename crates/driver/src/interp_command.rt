@@ -1,9 +1,8 @@
 //! The command that runs a C program.
 
 ghost use Rattle.std.specs.Prelude.{◌≡◌, ◌≢◌, ◌≤◌};
-ghost use Rattle.host.specs.Requests.{TellsLine};
 ghost use Rattle.driver.specs.Program.{interpreting};
-ghost use Rattle.driver.specs.Texts.{end_status, interp_fault_text};
+ghost use Rattle.driver.specs.Texts.{end_status};
 
 use crate::build_command::{source_place, typed_of};
 use crate::reasons::wrong_page;
@@ -26,25 +25,6 @@ pub(crate) fn end_status(end: End) -> u8
         End::Wrong => 3,
         End::More => 4,
     }
-}
-
-/// Tells the line of a run's fault, and below it where it lies and what is said of it.
-fn tell_interp<E: Complaints>(
-    alloc: Global,
-    err: &mut E,
-    source: &str,
-    text: &[u8],
-    fault: InterpFault,
-) -> u8
-    ensures status { result ≡ 1 }
-    ensures told { TellsLine E.tells err.old (interp_fault_text fault) err.new }
-{
-    let found = match fault {
-        InterpFault::Source(found) => Some(found),
-        InterpFault::NoMemory => None,
-    };
-    let place = source_place(alloc, source, text, found);
-    tell_placed(alloc, err, &fault, &place)
 }
 
 /// `mcc interp`: with so many active calls at most, for so many steps, in a form, and with their count if that is asked for. `source` names
@@ -114,6 +94,11 @@ impl FileCommand for InterpCommand<'_> {
     }
 
     fn tell<E: Complaints>(&self, alloc: Global, of: &BadFile<'_, InterpFault>, err: &mut E) -> u8 {
-        tell_interp(alloc, err, of.file, of.bytes, of.fault)
+        let found = match of.fault {
+            InterpFault::Source(found) => Some(found),
+            InterpFault::NoMemory => None,
+        };
+        let place = source_place(alloc, of.file, of.bytes, found);
+        tell_placed(alloc, err, &of.fault, &place)
     }
 }

@@ -39,20 +39,6 @@ fn sign_of(operator: BinaryOp) -> &'static str {
 const OVERFLOW: &str =
     "overflows: an int goes from -2147483648 to 2147483647\nhint: operands of type unsigned wrap";
 
-/// Returns why an operator has no value at these words.
-fn operation_words(operator: BinaryOp, right: u32) -> &'static str {
-    match operator {
-        BinaryOp::Divide | BinaryOp::Remainder if right == 0 => "divides by 0",
-        BinaryOp::ShiftLeft | BinaryOp::ShiftRight if right > 31 => {
-            "shifts by a count that isn't from 0 to 31"
-        }
-        BinaryOp::ShiftLeft => {
-            "shifts a negative int, or beyond 2147483647\nhint: shift an unsigned"
-        }
-        _ => OVERFLOW,
-    }
-}
-
 /// Writes why an operator between two words of a type has no value.
 fn put_operation(
     out: &mut Writer,
@@ -61,7 +47,17 @@ fn put_operation(
     left: u32,
     right: u32,
 ) {
-    let (sign, words) = (sign_of(operator), operation_words(operator, right));
+    let sign = sign_of(operator);
+    let words = match operator {
+        BinaryOp::Divide | BinaryOp::Remainder if right == 0 => "divides by 0",
+        BinaryOp::ShiftLeft | BinaryOp::ShiftRight if right > 31 => {
+            "shifts by a count that isn't from 0 to 31"
+        }
+        BinaryOp::ShiftLeft => {
+            "shifts a negative int, or beyond 2147483647\nhint: shift an unsigned"
+        }
+        _ => OVERFLOW,
+    };
     let (left, right) = (read_as(integer_type, left), read_as(integer_type, right));
     out.put(&format_args!("wrong: {left} {sign} {right} {words}\n"));
 }
@@ -128,15 +124,6 @@ fn put_place(alloc: Global, out: &mut Writer, run: BoundedRun<'_>) -> Result<(),
     Ok(())
 }
 
-/// Returns where and why a run is wrong, if it is.
-fn run_page(alloc: Global, run: BoundedRun<'_>) -> Option<Page> {
-    let why = reason_of(alloc, run.typed, run.depth, run.steps).ok()??;
-    let mut out = Writer::new(alloc);
-    put_place(alloc, &mut out, run).ok()?;
-    put_reason(&mut out, why, run.depth);
-    page_of(alloc, out)
-}
-
 /// Returns where and why the program that the text spells ends wrong within so many steps, in lines for people. None if it doesn't, or
 /// memory was refused. `source` is the text's name.
 pub fn wrong_page(
@@ -147,6 +134,7 @@ pub fn wrong_page(
     steps: u64,
 ) -> Option<Page> {
     let typed = typed_of(alloc, text).ok()?;
+    let why = reason_of(alloc, &typed, depth, steps).ok()??;
     let run = BoundedRun {
         source,
         text,
@@ -154,5 +142,8 @@ pub fn wrong_page(
         depth,
         steps,
     };
-    run_page(alloc, run)
+    let mut out = Writer::new(alloc);
+    put_place(alloc, &mut out, run).ok()?;
+    put_reason(&mut out, why, depth);
+    page_of(alloc, out)
 }

@@ -1,7 +1,6 @@
 //! The command that shows what becomes of a program, stage by stage.
 
-ghost use Rattle.std.specs.Prelude.{◌≡◌, ℕ, List, IfErr, IfOk, Some, ⊤};
-ghost use Rattle.host.specs.Requests.{TellsLine};
+ghost use Rattle.std.specs.Prelude.{ℕ, List, IfErr, IfOk, Some, ⊤};
 ghost use Rattle.driver.specs.BuildFaults.{IsBuildFault};
 ghost use Rattle.driver.specs.SourceFaults.{IsFaultless};
 ghost use Rattle.driver.specs.Program.{showing};
@@ -152,36 +151,6 @@ fn put_no_block(out: &mut Writer, asked: &Asked<'_>, first: usize, last: usize) 
     out.put(&format_args!("\nhint: it has {first} to {last}\n"));
 }
 
-/// Tells the line of a fault, and lines below it, if there are some.
-fn tell_with<E: Complaints>(err: &mut E, fault: StagesFault, page: Option<Page>) -> u8
-    ensures status { result ≡ 1 }
-    ensures told { TellsLine E.tells err.old (stages_fault_text fault) err.new }
-{
-    let status = tell(err, &fault);
-    tell_page(err, page);
-    status
-}
-
-/// Tells the fault's line, and below it what is said of it, with the names that were asked for, if they are known.
-fn tell_asked<E: Complaints>(
-    alloc: Global,
-    err: &mut E,
-    of: &BadFile<'_, StagesFault>,
-    asked: &Asked<'_>,
-) -> u8
-    ensures status { result ≡ 1 }
-    ensures told { TellsLine E.tells err.old (stages_fault_text of.now.fault) err.new }
-{
-    let mut out = Writer::new(alloc);
-    match of.fault {
-        StagesFault::Build(fault) => return tell_build(alloc, err, of.file, of.bytes, fault),
-        StagesFault::NoStage => put_no_stage(&mut out, asked.stage),
-        StagesFault::NoFunction => put_no_function(alloc, &mut out, of.bytes, asked.function),
-        StagesFault::NoBlock { first, last } => put_no_block(&mut out, asked, first, last),
-    }
-    tell_with(err, of.fault, page_of(alloc, out))
-}
-
 /// `mcc show`, with what is asked for.
 #[derive(Clone, Copy)]
 pub struct ShowCommand<'a> {
@@ -221,6 +190,16 @@ impl FileCommand for ShowCommand<'_> {
     fn remark<E: Complaints>(&self, _alloc: Global, _bytes: &[u8], _end: &(), _err: &mut E) {}
 
     fn tell<E: Complaints>(&self, alloc: Global, of: &BadFile<'_, StagesFault>, err: &mut E) -> u8 {
-        tell_asked(alloc, err, of, &self.asked)
+        let asked = &self.asked;
+        let mut out = Writer::new(alloc);
+        match of.fault {
+            StagesFault::Build(fault) => return tell_build(alloc, err, of.file, of.bytes, fault),
+            StagesFault::NoStage => put_no_stage(&mut out, asked.stage),
+            StagesFault::NoFunction => put_no_function(alloc, &mut out, of.bytes, asked.function),
+            StagesFault::NoBlock { first, last } => put_no_block(&mut out, asked, first, last),
+        }
+        let status = tell(err, &of.fault);
+        tell_page(err, page_of(alloc, out));
+        status
     }
 }

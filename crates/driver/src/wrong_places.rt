@@ -52,33 +52,6 @@ fn place_of(
     if count == 1 { at } else { None }
 }
 
-/// Returns the name of a function in its text.
-fn name_in<'t>(text: &'t [u8], function: &FunctionDefinition) -> &'t str {
-    let start = function.name.at as usize;
-    let end = start.saturating_add(function.name.length as usize);
-    str::from_utf8(text.get(start..end).unwrap_or(b"?")).unwrap_or("?")
-}
-
-/// Finds a place of a program's run in the text that spells it.
-fn named_place<'t>(
-    alloc: Global,
-    text: &'t [u8],
-    program: &Program,
-    typed: &Typed,
-    place: WrongPlace<'_>,
-) -> Option<NamedPlace<'t>> {
-    let function = function_of(program, place.function)?;
-    let body = &typed.functions().get(place.function)?.body;
-    let at = match place.statement {
-        Some(wanted) => place_of(alloc, function, body, wanted, place.left),
-        None => Some(function.name.at as usize),
-    };
-    Some(NamedPlace {
-        function: name_in(text, function),
-        at,
-    })
-}
-
 /// Finds a place of a program's run in its text.
 pub(crate) fn place_in_text<'t>(
     alloc: Global,
@@ -87,5 +60,14 @@ pub(crate) fn place_in_text<'t>(
     place: WrongPlace<'_>,
 ) -> Option<NamedPlace<'t>> {
     let program = read(alloc, text).ok()?;
-    named_place(alloc, text, &program, typed, place)
+    let function = function_of(&program, place.function)?;
+    let body = &typed.functions().get(place.function)?.body;
+    let start = function.name.at as usize;
+    let end = start.saturating_add(function.name.length as usize);
+    let name = str::from_utf8(text.get(start..end).unwrap_or(b"?")).unwrap_or("?");
+    let at = match place.statement {
+        Some(wanted) => place_of(alloc, function, body, wanted, place.left),
+        None => Some(start),
+    };
+    Some(NamedPlace { function: name, at })
 }

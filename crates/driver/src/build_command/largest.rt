@@ -29,16 +29,11 @@ fn most_words(owner: &[BlockNumber], orders: &[Order]) -> (usize, usize) {
     most
 }
 
-/// Finds the number of the function of a text that has most words of code, and how many; None if memory runs out to it.
-fn largest_of(alloc: Global, text: &[u8]) -> Option<(usize, usize)> {
-    let unit = unit_of(alloc, text, 1).ok()?;
-    let scheduled = schedule_plain(alloc, &unit).ok()?;
-    Some(most_words(unit.owner(), scheduled.orders()))
-}
-
 /// Returns the line that names the function of a text with most words of code; None if memory runs out to it.
 pub(crate) fn largest_line(alloc: Global, text: &[u8]) -> Option<Page> {
-    let (number, words) = largest_of(alloc, text)?;
+    let unit = unit_of(alloc, text, 1).ok()?;
+    let scheduled = schedule_plain(alloc, &unit).ok()?;
+    let (number, words) = most_words(unit.owner(), scheduled.orders());
     let program = read(alloc, text).ok()?;
     let function = function_of(&program, number.checked_sub(1)?)?;
     let mut out = Writer::new(alloc);

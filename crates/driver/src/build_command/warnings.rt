@@ -14,14 +14,6 @@ use text::{Page, Writer};
 /// So many warnings are told at most.
 const MOST: usize = 20;
 
-fn put_warning(out: &mut Writer, source: &str, text: &[u8], warning: &Warning) {
-    let Spot { line, column } = spot_of(text, warning.at);
-    out.within_line(source.as_bytes());
-    out.put(&format_args!(":{line}:{column}: warning: "));
-    out.within_line(warning.message.as_bytes());
-    out.text("\n");
-}
-
 /// Returns the lines of a text's warnings, in the order of their places, and how many more there are.
 fn warnings_page(
     alloc: Global,
@@ -34,7 +26,11 @@ fn warnings_page(
     warnings.sort_by_key(|warning: &Warning| warning.at)?;
     let mut out = Writer::new(alloc);
     for warning in warnings.iter().take(MOST) {
-        put_warning(&mut out, source, text, warning);
+        let Spot { line, column } = spot_of(text, warning.at);
+        out.within_line(source.as_bytes());
+        out.put(&format_args!(":{line}:{column}: warning: "));
+        out.within_line(warning.message.as_bytes());
+        out.text("\n");
     }
     let more = warnings.len().saturating_sub(MOST);
     if more > 0 {

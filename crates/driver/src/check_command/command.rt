@@ -79,26 +79,6 @@ fn print_answer<W: Output>(
     }
 }
 
-/// Returns where a fault of a check text lies: at a line, or at the first byte too many.
-fn offset_of(text: &[u8], fault: CheckFault) -> Option<usize> {
-    match fault {
-        CheckFault::Line(line) => Some(line_offset(text, line)),
-        CheckFault::Size => Some(LONGEST),
-        CheckFault::NoMemory => None,
-    }
-}
-
-/// Returns what is said of a fault of a check text.
-fn explanation_of(alloc: Global, text: &[u8], fault: CheckFault) -> Option<Explanation> {
-    match fault {
-        CheckFault::Line(line) => explain_line(alloc, text, line).ok(),
-        CheckFault::Size => {
-            Explanation::new(alloc, "the file has more than 1048576 bytes", None).ok()
-        }
-        CheckFault::NoMemory => None,
-    }
-}
-
 /// Tells the line of a fault of a text, and below it where it lies and what is said of it.
 pub(crate) fn tell_check<E: Complaints>(
     alloc: Global,
@@ -110,11 +90,23 @@ pub(crate) fn tell_check<E: Complaints>(
     ensures status { result ≡ 1 }
     ensures told { TellsLine E.tells err.old (check_fault_text fault) err.new }
 {
+    let (at, about) = match fault {
+        CheckFault::Line(line) => (
+            Some(line_offset(text, line)),
+            explain_line(alloc, text, line).ok(),
+        ),
+        // at the first byte too many
+        CheckFault::Size => (
+            Some(LONGEST),
+            Explanation::new(alloc, "the file has more than 1048576 bytes", None).ok(),
+        ),
+        CheckFault::NoMemory => (None, None),
+    };
     let place = Place {
         source: file,
         text,
-        at: offset_of(text, fault),
-        about: explanation_of(alloc, text, fault),
+        at,
+        about,
     };
     tell_placed(alloc, err, &fault, &place)
 }

@@ -21,22 +21,6 @@ fn spelled_pair(alloc: Global, text: &[u8]) -> Result<Option<Text>, AllocError> 
     }
 }
 
-/// Writes what is said of a verdict on block and order.
-fn put_said(
-    alloc: Global,
-    out: &mut Writer,
-    answer: &CheckAnswer,
-    text: &Text,
-) -> Result<(), AllocError> {
-    match answer {
-        CheckAnswer::Same => {}
-        CheckAnswer::Full => out.text("the table has no room for more than 16384 terms\n"),
-        CheckAnswer::Unclean(rule) => put_unclean(out, *rule, &text.order),
-        CheckAnswer::Differs(place) => put_differing(alloc, out, place, &text.block, &text.order)?,
-    }
-    Ok(())
-}
-
 /// Returns what is said of a verdict on the text's block and order; nothing of `same`.
 pub(crate) fn explanation(
     alloc: Global,
@@ -46,8 +30,13 @@ pub(crate) fn explanation(
     ensures { IfOk result (All IsShown) }
 {
     let mut out = Writer::new(alloc);
-    if let Some(spelled) = spelled_pair(alloc, text)? {
-        put_said(alloc, &mut out, answer, &spelled)?;
+    if let Some(Text { block, order }) = spelled_pair(alloc, text)? {
+        match answer {
+            CheckAnswer::Same => {}
+            CheckAnswer::Full => out.text("the table has no room for more than 16384 terms\n"),
+            CheckAnswer::Unclean(rule) => put_unclean(&mut out, *rule, &order),
+            CheckAnswer::Differs(place) => put_differing(alloc, &mut out, place, &block, &order)?,
+        }
     }
     out.end()?.cut(alloc, WIDTH)
 }

@@ -6,7 +6,7 @@ ghost use Rattle.image.specs.Texts.{image_fault_text};
 
 use host::{Complaints, FileError, tell, tell_file};
 use image::ImageFault;
-use std::alloc::{AllocError, Global};
+use std::alloc::Global;
 
 /// The bytes of the shortest head.
 const HEAD: usize = 20;
@@ -33,12 +33,6 @@ fn image_message(fault: ImageFault, bytes: &[u8]) -> Option<&'static str> {
     }
 }
 
-/// Reports whether the file begins as text does.
-fn begins_as_text(bytes: &[u8]) -> bool {
-    let is_of_text = |byte: &u8| matches!(byte, b' '..=b'~' | b'\t' | b'\n' | b'\r');
-    !bytes.is_empty() && bytes.iter().take(BEGINNING).all(is_of_text)
-}
-
 /// Reports whether the file may be a source instead of its image.
 fn may_be_source(file: &str, bytes: &[u8], fault: ImageFault) -> bool {
     let has_head = match fault {
@@ -46,13 +40,9 @@ fn may_be_source(file: &str, bytes: &[u8], fault: ImageFault) -> bool {
         ImageFault::Length => bytes.len() >= HEAD,
         _ => true,
     };
-    !has_head && (file.ends_with(".c") || begins_as_text(bytes))
-}
-
-/// Returns how an image is made of the source.
-fn build_words(alloc: Global, file: &str) -> Result<String, AllocError> {
-    let name = file.strip_suffix(".c").unwrap_or(file);
-    format!(in alloc; "build it first: mcc build {file} {name}.image")
+    let is_of_text = |byte: &u8| matches!(byte, b' '..=b'~' | b'\t' | b'\n' | b'\r');
+    let begins_as_text = !bytes.is_empty() && bytes.iter().take(BEGINNING).all(is_of_text);
+    !has_head && (file.ends_with(".c") || begins_as_text)
 }
 
 /// Tells the line of an image's fault, and below it what is wrong with the file, with a hint.
@@ -90,7 +80,8 @@ pub fn tell_image<E: Complaints>(
         return tell(err, &fault);
     };
     let words = if may_be_source(file, bytes, fault) {
-        build_words(alloc, file).ok()
+        let name = file.strip_suffix(".c").unwrap_or(file);
+        format!(in alloc; "build it first: mcc build {file} {name}.image").ok()
     } else {
         None
     };

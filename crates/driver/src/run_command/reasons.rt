@@ -51,17 +51,12 @@ fn put_listed(alloc: Global, out: &mut Writer, image: &Image, at: u32) -> Result
     Ok(())
 }
 
-/// Returns why an image is stuck at an address, by a rule.
-fn rule_page(alloc: Global, image: &Image, at: u32, rule: Rule) -> Option<Page> {
-    let words = rule_words(rule);
-    let mut out = Writer::new(alloc);
-    out.put(&format_args!("stuck: at 0x{at:x}: {words}\n"));
-    put_listed(alloc, &mut out, image, at).ok()?;
-    page_of(alloc, out)
-}
-
 /// Returns why the image of these bytes is stuck at an address, by a rule.
 pub(crate) fn stuck_page(alloc: Global, bytes: &[u8], at: u32, rule: Rule) -> Option<Page> {
     let image = read_image(alloc, bytes).ok()?;
-    rule_page(alloc, &image, at, rule)
+    let words = rule_words(rule);
+    let mut out = Writer::new(alloc);
+    out.put(&format_args!("stuck: at 0x{at:x}: {words}\n"));
+    put_listed(alloc, &mut out, &image, at).ok()?;
+    page_of(alloc, out)
 }
