@@ -9,20 +9,12 @@ ghost use Rattle.mcc_web.specs.Answers.{SaysAnswer, SaysFaultOf, SaysReason};
 ghost use Rattle.mcc_web.specs.declared.told.TheConstants.{REFUSED};
 
 pub use crate::told::REFUSED;
-use crate::told::{Told, put};
+use crate::told::{Told, put, refuse};
 use driver::{CheckCommand, ImageCommand, InterpCommand, RunCommand, ShowCommand, wrong_page};
 use host::{BadFile, Broken, FileCommand, WordForm};
 use show::Asked;
 use std::alloc::Global;
 use std::str;
-
-/// Refuses memory to the text of an answer.
-fn refuse(status: &mut u8) -> usize
-    ensures { status.new ≡ REFUSED }
-{
-    *status = REFUSED;
-    0
-}
 
 /// Gives the host what a command prints of the bytes, or the line of their fault and what is said of it.
 fn give<C: FileCommand>(

@@ -7,7 +7,7 @@ ghost use Rattle.driver.specs.Follows.{FollowsText};
 ghost use Rattle.mcc_web.specs.Answers.{IsScheduledAs, SaysBuildFault, SaysImage};
 ghost use Rattle.mcc_web.specs.declared.told.TheConstants.{REFUSED};
 
-use crate::told::{REFUSED, Told, put};
+use crate::told::{Told, put, refuse};
 use driver::{BuildFault, BuildOpts, Built, build_one, build_plain, print_built, tell_build};
 use list_scheduler::{FilledOrder, ListOrder};
 use sched_phase::PhaseOpts;
@@ -105,10 +105,7 @@ pub extern "C" fn mcc_web_build(
                 *status = 0;
                 put(out, printed.as_slice())
             }
-            Err(_) => {
-                *status = REFUSED;
-                0
-            }
+            Err(_) => refuse(status),
         },
         Err(fault) => give_build_fault(alloc, text, depth, fault, out, status),
     }

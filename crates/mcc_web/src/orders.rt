@@ -3,11 +3,11 @@
 ghost use Rattle.std.specs.Prelude.{◌≡◌, ◌≢◌, OnOk, length};
 ghost use Rattle.std.specs.Io.KnownBytes.{Appends};
 ghost use Rattle.mcc_web.specs.Answers.{SaysBuildFault};
-ghost use Rattle.mcc_web.specs.Orders.{SaysOrders, insts_text, pair_text, pairs_text, slot_text};
+ghost use Rattle.mcc_web.specs.Orders.{SaysOrders, insts_text, pair_text, pairs_text};
 ghost use Rattle.mcc_web.specs.declared.told.TheConstants.{REFUSED};
 
 use crate::builds::{give_build_fault, phase_for};
-use crate::told::{REFUSED, put};
+use crate::told::{put, refuse};
 use block_text::ExitLine;
 use driver::unit_of;
 use list_scheduler::{FilledOrder, ListOrder};
@@ -24,15 +24,6 @@ fn print_insts<W: Write>(out: &mut W, insts: &[Plain]) -> io::Result<()>
         writeln!(out, "{inst}")?;
     }
     Ok(())
-}
-
-fn print_slot<W: Write>(out: &mut W, slot: Option<Plain>) -> io::Result<()>
-    ensures { OnOk result (Appends (W.contents out.old) (W.contents out.new) (slot_text slot)) }
-{
-    match slot {
-        Some(inst) => writeln!(out, "slot {inst}"),
-        None => Ok(()),
-    }
 }
 
 fn print_pair<W: Write>(
@@ -52,7 +43,10 @@ fn print_pair<W: Write>(
     print_insts(out, order.insts())?;
     let exit = ExitLine(order.exit());
     write!(out, "{exit}\n")?;
-    print_slot(out, order.slot())
+    match order.slot() {
+        Some(inst) => writeln!(out, "slot {inst}"),
+        None => Ok(()),
+    }
 }
 
 fn print_pairs<W: Write>(
@@ -102,8 +96,7 @@ pub extern "C" fn mcc_web_orders(
     };
     let Ok(scheduled) = schedule_one(alloc, &unit, phase_for(text.len()), &FilledOrder(ListOrder))
     else {
-        *status = REFUSED;
-        return 0;
+        return refuse(status);
     };
     let mut printed = Vec::new(alloc);
     match print_pairs(
@@ -116,9 +109,6 @@ pub extern "C" fn mcc_web_orders(
             *status = 0;
             put(out, printed.as_slice())
         }
-        Err(_) => {
-            *status = REFUSED;
-            0
-        }
+        Err(_) => refuse(status),
     }
 }

@@ -23,6 +23,14 @@ pub(crate) fn put(out: &mut [u8], text: &[u8]) -> usize
     text.len()
 }
 
+/// Refuses memory to the text of an answer.
+pub(crate) fn refuse(status: &mut u8) -> usize
+    ensures { status.new ≡ REFUSED }
+{
+    *status = REFUSED;
+    0
+}
+
 /// All that was told; not whole where memory was refused to a part of it.
 #[derive(Drop)]
 pub(crate) struct Told {
@@ -51,8 +59,7 @@ impl Told {
         if self.is_whole {
             put(out, self.lines.as_slice())
         } else {
-            *status = REFUSED;
-            0
+            refuse(status)
         }
     }
 }
