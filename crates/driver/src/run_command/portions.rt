@@ -1,6 +1,6 @@
 //! A run in portions: what a portion wrote is printed and sent on before the next one begins.
 
-ghost use Rattle.std.specs.Prelude.{◌≡◌, ◌<◌, ◌≤◌, ℕ, List, [], ◌∷◌, ◌++◌, None, IfErr, IfOk, MatchOption, OnErr, OnOk};
+ghost use Rattle.std.specs.Prelude.{◌≡◌, ◌<◌, ℕ, List, [], ◌∷◌, ◌++◌, None, IfErr, IfOk, MatchOption, OnErr, OnOk};
 ghost use Rattle.std.specs.Io.KnownBytes.{Appends};
 ghost use Rattle.host.specs.Requests.{IsSent, WasRefused};
 ghost use Rattle.runs.specs.Runs.{RunOutcome};
@@ -112,14 +112,6 @@ fn put_last<R: Resumable, W: Output>(
     out.send()
 }
 
-/// Returns the words or steps of the next portion, if so many are left.
-fn portion_of(left: u64) -> u64
-    ensures within { result ≤ left }
-    ensures some { 0 < left → 0 < result }
-{
-    if left < PORTION { left } else { PORTION }
-}
-
 /// Returns how a run ends behind a portion, if it does: as the portion says, or, where nothing is left, as one that would go on.
 fn end_of<R: Resumable>(run: &R, end: Option<R::End>, left: u64) -> Option<R::End>
     ensures { MatchOption result ((end ≡ None) × (0 < left)) (IsLast R.comes_to run.now end left) }
@@ -150,7 +142,7 @@ pub fn stream<R: Resumable, W: Output>(
 {
     let mut left = most;
     loop {
-        let Ok(advance) = run.go_on(alloc, portion_of(left), OUTPUTS) else {
+        let Ok(advance) = run.go_on(alloc, left.min(PORTION), OUTPUTS) else {
             return Err(Cut::NoMemory);
         };
         left -= advance.ran;

@@ -6,10 +6,10 @@ ghost use Rattle.host.specs.Requests.{TellsBeside};
 
 use crate::reasons::page_of;
 use host::Complaints;
-use image::{Image, read_image};
+use image::read_image;
 use mips_asm::list;
 use mips_isa::{CODE_BASE, Rule};
-use std::alloc::{AllocError, Global};
+use std::alloc::Global;
 use text::{Page, Writer};
 
 /// Tells the lines, if there are some.
@@ -37,26 +37,20 @@ fn rule_words(rule: Rule) -> &'static str {
     }
 }
 
-/// Writes the line of the listing that has the code word at this address, if there is one.
-fn put_listed(alloc: Global, out: &mut Writer, image: &Image, at: u32) -> Result<(), AllocError> {
-    let number = at.saturating_sub(CODE_BASE) as usize / 4;
-    if at < CODE_BASE || at % 4 != 0 || number >= image.code().len() {
-        return Ok(());
-    }
-    let listing = list(alloc, image)?;
-    if let Some(line) = listing.as_str().lines().nth(number) {
-        out.text(line);
-        out.text("\n");
-    }
-    Ok(())
-}
-
 /// Returns why the image of these bytes is stuck at an address, by a rule.
 pub(crate) fn stuck_page(alloc: Global, bytes: &[u8], at: u32, rule: Rule) -> Option<Page> {
     let image = read_image(alloc, bytes).ok()?;
     let words = rule_words(rule);
     let mut out = Writer::new(alloc);
     out.put(&format_args!("stuck: at 0x{at:x}: {words}\n"));
-    put_listed(alloc, &mut out, &image, at).ok()?;
+    // the line of the listing that has the code word there, if there is one
+    let number = at.saturating_sub(CODE_BASE) as usize / 4;
+    if at >= CODE_BASE && at % 4 == 0 && number < image.code().len() {
+        let listing = list(alloc, &image).ok()?;
+        if let Some(line) = listing.as_str().lines().nth(number) {
+            out.text(line);
+            out.text("\n");
+        }
+    }
     page_of(alloc, out)
 }
