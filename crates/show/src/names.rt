@@ -120,10 +120,11 @@ impl<'t> Names<'t> {
     pub(crate) fn register(&self, function: usize, register: u32) -> RegisterName<'t> {
         let number = register as usize;
         let name = self.local(function, number);
-        let is_again = (0..number).any(|earlier| self.local(function, earlier) == name);
+        let is_shared = name.is_none()
+            || (0..number).any(|earlier| self.local(function, earlier) == name);
         RegisterName {
             name: name.unwrap_or(""),
-            number: (name.is_none() || is_again).then_some(register),
+            number: is_shared.then_some(register),
         }
     }
 }
