@@ -83,6 +83,9 @@ impl Free {
     /// Returns the place of the best one that nothing delays.
     fn best(&self, graph: &Graph, delayed: Resources) -> Option<usize> {
         for place in (self.from..graph.lists.len()).rev() {
+            if delayed.is_empty() {
+                return Some(place);
+            }
             let rank = *graph.lists.get(place)?;
             let node = graph.nodes.get(number_of(rank) as usize)?;
             if !node.facts.delayed().meets(delayed) {
