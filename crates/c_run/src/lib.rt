@@ -18,7 +18,7 @@ mod portions;
 mod reasons;
 mod steps;
 
-pub use places::{WrongPlace, wrong_place_of};
+pub use places::{WrongPlace, statements_in, wrong_place_of};
 pub use portions::{UnderWay, begin, output_goes_before};
 pub use reasons::{Reason, reason_of};
 pub use steps::run;

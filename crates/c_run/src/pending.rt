@@ -8,6 +8,7 @@ ghost use Rattle.c_run.specs.Interpreter.{point_at, todos, with_head, with_part}
 ghost use Rattle.c_run.specs.Sizes.{load, sizes, head_size};
 ghost use Rattle.c_run.specs.Turns.{past_turn, at_turn};
 
+use crate::places::statements_of;
 use c_typed::TypedStatement;
 use std::alloc::{AllocError, Global};
 
@@ -55,9 +56,17 @@ impl<'a> Agenda<'a> {
         }
     }
 
-    /// Returns how many statements are left of the list.
+    /// Counts the statements that are left of the lists, with those inside them.
     pub(crate) fn left(&self) -> usize {
-        self.list.len()
+        let mut left = statements_of(self.list);
+        for t in &self.behind {
+            match t {
+                Pending::Rest(list) | Pending::One(_, list) | Pending::Turn(_, _, list) => {
+                    left = left.saturating_add(statements_of(list));
+                }
+            }
+        }
+        left
     }
 
     /// Puts another list first; what is left of the one before waits.

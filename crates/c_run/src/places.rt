@@ -14,8 +14,32 @@ pub struct WrongPlace<'a> {
     pub function: usize,
     /// What can't be done; None at the function's end.
     pub statement: Option<&'a TypedStatement>,
-    /// How many statements follow it in its block; 0 for the body of a loop without braces, and for the last part of a `for`.
+    /// How many statements follow it in the blocks around it, with those inside them.
     pub left: usize,
+}
+
+/// Counts the statements of a list, with those inside them.
+#[cycle(counts)]
+pub(crate) fn statements_of(list: &[TypedStatement]) -> usize {
+    let mut count = 0usize;
+    for s in list {
+        count = count.saturating_add(statements_in(s));
+    }
+    count
+}
+
+/// Counts a statement with those inside it.
+#[cycle(counts)]
+pub fn statements_in(s: &TypedStatement) -> usize {
+    match s {
+        TypedStatement::Block(all) => statements_of(all.as_slice()),
+        TypedStatement::If(_, one, other) | TypedStatement::Loop(_, one, other) => {
+            statements_in(one)
+                .saturating_add(statements_in(other))
+                .saturating_add(1)
+        }
+        _ => 1,
+    }
 }
 
 /// Keeps the numbers of the functions whose calls are active after a statement; the one that runs is the last.
@@ -55,10 +79,12 @@ pub fn wrong_place_of<'a>(
             return Ok(Some(place));
         };
         place.statement = Some(s);
-        place.left = interpreter.frame.todo.left();
         match act(alloc, program, depth, &mut interpreter, s)? {
             Reached::Going => keep_active(&mut active, s, interpreter.waiting.len())?,
-            Reached::Failed => return Ok(Some(place)),
+            Reached::Failed => {
+                place.left = interpreter.frame.todo.left();
+                return Ok(Some(place));
+            }
             Reached::Ended(_) => return Ok(None),
         }
     }

@@ -21,6 +21,7 @@ mod level_runs;
 mod levels;
 mod listings;
 mod pages;
+mod placed_statements;
 mod program;
 mod reasons;
 mod run_command;

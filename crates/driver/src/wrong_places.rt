@@ -1,12 +1,11 @@
-//! Finds where a statement of a run stands in its text. It is the one of its function that is typed like it, and that as many others follow
-//! in their block.
+//! Finds where a statement of a run stands in its text. It is the one of its function that is typed like it, and that as many others follow.
 
+use crate::placed_statements::placed_statements;
 use c_front::read;
 use c_run::WrongPlace;
 use c_tree::{Declaration, FunctionDefinition, Program};
 use c_typed::TypedStatement;
 use c_types::Typed;
-use messages::placed_statements;
 use std::alloc::Global;
 use std::str;
 

@@ -1,17 +1,18 @@
 //! The statements of a function with their places in the text. A typed tree has none, but the same form as the syntax tree.
 
+use c_run::statements_in;
 use c_tree::{Expression, ForParts, FunctionDefinition, Item, Simple, Statement};
 use c_typed::TypedStatement;
 use std::alloc::{AllocError, Global};
 
 /// A statement that takes a step, or a declaration without a first value.
 #[derive(Clone, Copy)]
-pub struct PlacedStatement<'a> {
-    pub statement: &'a TypedStatement,
+pub(crate) struct PlacedStatement<'a> {
+    pub(crate) statement: &'a TypedStatement,
     /// Where its first name or its `return` stands, in bytes from the text's beginning; None where it has neither.
-    pub at: Option<usize>,
-    /// How many statements follow it in its block; 0 for the body of a loop without braces, and for the last part of a `for`.
-    pub left: usize,
+    pub(crate) at: Option<usize>,
+    /// How many statements follow its own in the blocks around it, with those inside them.
+    pub(crate) left: usize,
 }
 
 /// Finds where the first name of an expression stands, if it has one.
@@ -61,26 +62,33 @@ impl<'a> Walk<'a> {
 
     /// Walks through a `for`, which is typed as the block of its first part and the loop.
     #[cycle(statements)]
-    fn for_loop(&mut self, parts: &ForParts, body: &Statement, typed: &'a [TypedStatement]) {
+    fn for_loop(
+        &mut self,
+        parts: &ForParts,
+        body: &Statement,
+        typed: &'a [TypedStatement],
+        left: usize,
+    ) {
         let [begin, again] = typed else { return };
         let TypedStatement::Loop(_, step, inner) = again else {
             return;
         };
         if let Some(first) = &parts.first {
-            self.add(begin, 1, Some(start_of(first)));
+            let behind = left.saturating_add(statements_in(again));
+            self.add(begin, behind, Some(start_of(first)));
         }
-        self.add(again, 0, parts.test.as_ref().and_then(first_name));
+        self.add(again, left, parts.test.as_ref().and_then(first_name));
         if let Some(last) = &parts.last {
-            self.add(step, 0, Some(start_of(last)));
+            self.add(step, left, Some(start_of(last)));
         }
-        self.statement(body, inner, 0);
+        self.statement(body, inner, left);
     }
 
-    /// Walks through a statement that so many others follow in its block.
+    /// Walks through a statement that so many others follow.
     #[cycle(statements)]
     fn statement(&mut self, s: &Statement, typed: &'a TypedStatement, left: usize) {
         match (s, typed) {
-            (Statement::Block(items), TypedStatement::Block(all)) => self.items(items, all),
+            (Statement::Block(items), TypedStatement::Block(all)) => self.items(items, all, left),
             (Statement::If(test, first), TypedStatement::If(_, one, _)) => {
                 self.add(typed, left, first_name(test));
                 self.statement(first, one, left);
@@ -92,10 +100,10 @@ impl<'a> Walk<'a> {
             }
             (Statement::While(test, body), TypedStatement::Loop(_, _, inner)) => {
                 self.add(typed, left, first_name(test));
-                self.statement(body, inner, 0);
+                self.statement(body, inner, left);
             }
             (Statement::For(parts, body), TypedStatement::Block(two)) => {
-                self.for_loop(parts, body, two);
+                self.for_loop(parts, body, two, left);
             }
             (Statement::Return(at, _), _) => self.add(typed, left, Some(*at)),
             (Statement::Simply(inner), _) => self.add(typed, left, Some(start_of(inner))),
@@ -103,23 +111,24 @@ impl<'a> Walk<'a> {
         }
     }
 
-    /// Walks through the items of a block or of a function's body.
+    /// Walks backwards through the items of a block or of a function's body, behind which so many statements stand.
     #[cycle(statements)]
-    fn items(&mut self, items: &[Item], typed: &'a [TypedStatement]) {
-        for (k, item) in items.iter().enumerate() {
-            if let Some(one) = typed.get(k) {
-                let left = typed.len().saturating_sub(k).saturating_sub(1);
-                match item {
-                    Item::Declare(_, name, _) => self.add(one, left, Some(name.at as usize)),
-                    Item::Statement(s) => self.statement(s, one, left),
-                }
+    fn items(&mut self, items: &[Item], typed: &'a [TypedStatement], behind: usize) {
+        let mut left = behind;
+        for (k, one) in typed.iter().enumerate().rev() {
+            match items.get(k) {
+                Some(Item::Declare(_, name, _)) => self.add(one, left, Some(name.at as usize)),
+                Some(Item::Statement(s)) => self.statement(s, one, left),
+                // (the return at the function's end)
+                None => {}
             }
+            left = left.saturating_add(statements_in(one));
         }
     }
 }
 
-/// Lists the statements of a function in the order of the text, given its body as it was typed.
-pub fn placed_statements<'a>(
+/// Lists the statements of a function, given its body as it was typed.
+pub(crate) fn placed_statements<'a>(
     alloc: Global,
     function: &FunctionDefinition,
     body: &'a [TypedStatement],
@@ -128,7 +137,7 @@ pub fn placed_statements<'a>(
         placed: Vec::new(alloc),
         is_refused: false,
     };
-    walk.items(&function.body, body);
+    walk.items(&function.body, body, 0);
     if walk.is_refused {
         return Err(AllocError);
     }
