@@ -6,6 +6,7 @@ use crate::files::{FileFault, Files};
 use std::alloc::Global;
 use std::fs::{File, Metadata, OpenFile, OpenOptions};
 use std::io::{ErrorKind, Read, Write};
+use std::path::PathBuf;
 use std::rt::Files as HostFiles;
 use std::{fs, io};
 
@@ -25,6 +26,8 @@ pub struct Disk<'a, R: HostFiles + AllocGlobal + Input> {
     pub rt: &'a R,
     /// The bytes of the longest text for which there is stack.
     pub longest: usize,
+    /// The file that was read last, by its one path without links: it isn't written over.
+    pub source: Option<PathBuf>,
 }
 
 impl<'a, R: HostFiles + AllocGlobal + Input> Files for Disk<'a, R> {
@@ -41,11 +44,16 @@ impl<'a, R: HostFiles + AllocGlobal + Input> Files for Disk<'a, R> {
         if text.len().min(LONGEST_TEXT) > self.longest {
             return Err(FileFault::NoMemory);
         }
+        self.source = match fs::canonicalize(self.rt, name) {
+            Ok(place) => Some(place),
+            Err(e) if e.kind() == ErrorKind::OutOfMemory => return Err(FileFault::NoMemory),
+            Err(_) => None,
+        };
         Ok(text)
     }
 
     fn write(&mut self, name: &str, bytes: &[u8]) -> Result<(), FileFault> {
-        told(replace(self.rt, name, bytes))
+        told(replace(self.rt, self.source.as_ref(), name, bytes))
     }
 }
 
@@ -56,14 +64,22 @@ fn start_of<I: Read + Drop>(alloc: Global, input: I) -> io::Result<Vec<u8>> {
     Ok(bytes)
 }
 
-/// Makes these bytes the file of this name: written beside it and renamed, so that an interrupt or a full disk leaves the old file.
-/// What isn't a file yet is made in place where it stands for something else: a link, a device, a pipe.
-fn replace<R: HostFiles + AllocGlobal>(rt: &R, name: &str, bytes: &[u8]) -> io::Result<()> {
+/// Makes these bytes the file of this name, unless it is the source: written beside it and renamed, so that an interrupt or a full disk
+/// leaves the old file. What isn't a file yet is made in place where it stands for something else: a link, a device, a pipe.
+fn replace<R: HostFiles + AllocGlobal>(
+    rt: &R,
+    source: Option<&PathBuf>,
+    name: &str,
+    bytes: &[u8],
+) -> io::Result<()> {
     match rt.metadata(name) {
         Ok(old) if old.is_file() => {
             // (a file that can't be written stays, and a link leads to the same file as before)
             let _may_write = OpenOptions::new().write(true).open(rt, name)?;
             let place = fs::canonicalize(rt, name)?;
+            if source == Some(&place) {
+                return Err(ErrorKind::AlreadyExists.into());
+            }
             write_beside(rt, place.as_str(), bytes, Some(&old))
         }
         Ok(_) => fs::write(rt, name, bytes),

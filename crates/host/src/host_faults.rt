@@ -80,7 +80,7 @@ pub fn tell_unwritten<E: Complaints>(alloc: Global, err: &mut E, file: &str, fau
     let about = FileError {
         file,
         message: "the image can't be written",
-        hint: None,
+        hint: Some("it has to be a new file, or one that may be written and isn't the source"),
     };
     tell_host(alloc, err, &about, fault)
 }

@@ -47,7 +47,11 @@ fn work<
 >(threads: &T, rt: &R, words: &[&str], longest: usize, out: W, mut err: E) -> u8 {
     let alloc = rt.alloc();
     grow_heap(alloc);
-    let files = Disk { rt, longest };
+    let files = Disk {
+        rt,
+        longest,
+        source: None,
+    };
     match BufWriter::new(alloc, UntilRefused::new(out)) {
         Ok(out) => answer(&mut System {
             threads,
