@@ -9,6 +9,6 @@ abbrev pub IsReason : Reason → Type 0
 IsReason Unset = ⊤
 IsReason (Outside index integer_type length) = length ≤ index
 IsReason (Prefix operator integer_type operand) = unary_of operator (sign_of integer_type) operand ≡ None
-IsReason (Operation operator integer_type left right) = binary_of operator (sign_of integer_type) left right ≡ None
+IsReason (Operation operator integer_type right_type left right) = binary_of operator (sign_of integer_type) left right ≡ None
 IsReason TooDeep = ⊤
 IsReason NoResult = ⊤

@@ -35,10 +35,11 @@ pub enum Reason {
         integer_type: IntegerType,
         operand: u32,
     },
-    /// The operator has no value at these words, read as its type says.
+    /// The operator has no value at these words, read as its type says; the right one as a type of its own, where it counts a shift.
     Operation {
         operator: BinaryOp,
         integer_type: IntegerType,
+        right_type: IntegerType,
         left: u32,
         right: u32,
     },
@@ -127,6 +128,7 @@ fn missing_of_expression(
                 None => Some(Reason::Operation {
                     operator: *operator,
                     integer_type: *integer_type,
+                    right_type: right.integer_type(),
                     left: x,
                     right: y,
                 }),

@@ -39,18 +39,12 @@ fn sign_of(operator: BinaryOp) -> &'static str {
 const OVERFLOW: &str =
     "overflows: an int goes from -2147483648 to 2147483647\nhint: operands of type unsigned wrap";
 
-/// Writes why an operator between two words of a type has no value.
-fn put_operation(
-    out: &mut Writer,
-    operator: BinaryOp,
-    integer_type: IntegerType,
-    left: u32,
-    right: u32,
-) {
+/// Writes why an operator between two numbers has no value.
+fn put_operation(out: &mut Writer, operator: BinaryOp, left: i64, right: i64) {
     let sign = sign_of(operator);
     let words = match operator {
         BinaryOp::Divide | BinaryOp::Remainder if right == 0 => "divides by 0",
-        BinaryOp::ShiftLeft | BinaryOp::ShiftRight if right > 31 => {
+        BinaryOp::ShiftLeft | BinaryOp::ShiftRight if right < 0 || right > 31 => {
             "shifts by a count that isn't from 0 to 31"
         }
         BinaryOp::ShiftLeft => {
@@ -58,7 +52,6 @@ fn put_operation(
         }
         _ => OVERFLOW,
     };
-    let (left, right) = (read_as(integer_type, left), read_as(integer_type, right));
     out.put(&format_args!("wrong: {left} {sign} {right} {words}\n"));
 }
 
@@ -85,9 +78,15 @@ fn put_reason(out: &mut Writer, why: Reason, depth: u32) {
         Reason::Operation {
             operator,
             integer_type,
+            right_type,
             left,
             right,
-        } => put_operation(out, operator, integer_type, left, right),
+        } => put_operation(
+            out,
+            operator,
+            read_as(integer_type, left),
+            read_as(right_type, right),
+        ),
         Reason::TooDeep => out.put(&format_args!(
             "wrong: more than {depth} calls are active at once\nhint: --depth N lets N be active, 4096 at most\n"
         )),
