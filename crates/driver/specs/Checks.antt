@@ -4,18 +4,19 @@ use Rattle.mblock.specs.Parts.{BlockParts, OrderParts}
 use Rattle.block_text.specs.Lines.{lines_of}
 use Rattle.block_text.specs.Whole.{FailsAt, SpellsPair}
 use Rattle.mblock.specs.Clean.{IsClean}
+use Rattle.sym_exec.specs.Growth.{block_growth, order_growth}
 use Rattle.block_validator.specs.Verdicts.{Decides, same, unclean, differs}
 use Rattle.driver.specs.declared.check_command.verdicts.CheckAnswer.{CheckAnswer}
 use Rattle.driver.specs.declared.check_command.verdicts.CheckAnswer.TheVariants as answers
 use Rattle.driver.specs.declared.check_command.verdicts.CheckFault.{CheckFault}
 use Rattle.driver.specs.declared.check_command.verdicts.CheckFault.TheVariants as faults
 
--- what is decided of the order; a full table is no verdict, and comes only on a clean order
+-- what is decided of the order; a full table is no verdict, and comes only on a clean order that may make too many terms with its block
 abbrev pub IsAnswer : BlockParts → OrderParts → CheckAnswer → Type 0
 IsAnswer b o (answers.Unclean rule) = Decides b o (unclean rule)
 IsAnswer b o (answers.Differs place) = Decides b o (differs place)
 IsAnswer b o answers.Same = Decides b o same
-IsAnswer b o answers.Full = IsClean o
+IsAnswer b o answers.Full = IsClean o × (16384 ≤ block_growth b + order_growth o)
 
 -- the size is tested first; else the first line that can't stand
 abbrev pub IsCheckFault : List ℕ → CheckFault → Type 0
