@@ -1,6 +1,6 @@
 //! What is said of numbers that are no constants, and of texts beyond a size.
 
-use crate::source::{Source, back, before, front, is_word, shown_text, spelled_at};
+use crate::source::{Source, TYPES, back, before, front, is_word, shown_text, spelled_at};
 use c_tokens::{MAX_TEXT, Mark};
 use text::Said;
 
@@ -31,9 +31,13 @@ fn has_only(number: &[u8], bytes: &[u8]) -> bool {
 /// Returns why a number is no constant, and what to write; empty where nothing helps.
 #[rattlefmt::skip]
 fn reason(number: &[u8]) -> (&'static str, &'static str) {
-    let (floating, digits): (&[u8], &[u8]) = match number {
-        [b'0', b'x' | b'X', digits @ ..] => (b".pP", digits),
-        _ => (b".pPeE", number),
+    let body = match number {
+        [body @ .., b'u' | b'U'] => body,
+        _ => number,
+    };
+    let (floating, digits, allowed): (&[u8], &[u8], &[u8]) = match body {
+        [b'0', b'x' | b'X', digits @ ..] => (b".pP", digits, b"0123456789abcdefABCDEF"),
+        _ => (b".pPeE", body, b"0123456789"),
     };
     match number {
         _ if has(number, floating) => ("floating point isn't in this subset of C", "write a whole number"),
@@ -42,7 +46,7 @@ fn reason(number: &[u8]) -> (&'static str, &'static str) {
         [b'0', ..] if has(number, b"89") && has_only(number, b"0123456789") =>
             ("a number that begins with 0 is octal", "leave the 0 at its front out"),
         [b'1'..=b'9', ..] if shown_text(number).parse::<u32>().is_ok() => ("an int goes up to 2147483647, append u", ""),
-        _ if has_only(digits, b"0123456789abcdefABCDEFuU") => ("an unsigned goes up to 4294967295", ""),
+        _ if !digits.is_empty() && has_only(digits, allowed) => ("an unsigned goes up to 4294967295", ""),
         _ => ("digits come first, and u may follow", ""),
     }
 }
@@ -55,13 +59,18 @@ pub(crate) fn say_constant(said: &mut Said, source: &Source<'_>, at: usize) {
     let (why, hint) = if !is_least {
         reason(number)
     } else if source.open_before(k, Mark::LeftBrace).is_some() {
-        ("an int goes up to 2147483647", "write -2147483647 - 1")
+        ("an int goes up to 2147483647", "write (-2147483647 - 1)")
     } else {
         // at file scope a minus and a constant are all that can stand
         (
             "an int goes up to 2147483647",
             "write 0x80000000, which becomes -2147483648 as an int",
         )
+    };
+    // (a name that a declaration would give)
+    let hint = match hint {
+        "" if source.is_one(before(k, 1), TYPES) => "a name begins with a letter or '_'",
+        _ => hint,
     };
     let number = shown_text(number);
     said.message

@@ -28,7 +28,7 @@ const CONSTANTS: &[Told] = &[
     (&[b"CHAR_BIT"], "write 8"),
     (&[b"UCHAR_MAX", b"UINT8_MAX"], "write 255"),
     (&[b"INT_MAX", b"INT32_MAX"], "write 2147483647"),
-    (&[b"INT_MIN", b"INT32_MIN"], "write -2147483647 - 1"),
+    (&[b"INT_MIN", b"INT32_MIN"], "write (-2147483647 - 1)"),
     (&[b"UINT_MAX", b"UINT32_MAX", b"SIZE_MAX"], "write 4294967295u"),
     (&[b"INT8_MAX"], "write 127"),
     (&[b"INT8_MIN"], "write -128"),
@@ -36,6 +36,33 @@ const CONSTANTS: &[Told] = &[
     (&[b"INT16_MIN"], "write -32768"),
     (&[b"UINT16_MAX"], "write 65535"),
 ];
+
+/// Words that other languages have for operators and keywords.
+#[rattlefmt::skip]
+const WORDS: &[Told] = &[
+    (&[b"and"], "write &&"),
+    (&[b"or"], "write ||"),
+    (&[b"not"], "write !"),
+    (&[b"xor"], "write ^"),
+    (&[b"mod"], "write %"),
+    (&[b"elif", b"elsif", b"elseif"], "write else if"),
+    (&[b"then"], "leave it out"),
+    (&[b"brake"], "write break"),
+];
+
+/// Returns what is written in place of a word that stands at a token, just before it, or at the beginning of its statement.
+pub(crate) fn word_hint(source: &Source<'_>, k: usize) -> Option<&'static str> {
+    for token in [k, before(k, 1), source.first_of(k)] {
+        let name = source.spelling(token);
+        if source.is_name(token) && source.declaration_of(name).is_none() {
+            let told = told_of(WORDS, name);
+            if told.is_some() {
+                return told;
+            }
+        }
+    }
+    None
+}
 
 /// Returns what is written in place of a name of these headers.
 pub(crate) fn written_for(name: &[u8]) -> Option<&'static str> {

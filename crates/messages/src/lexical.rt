@@ -1,6 +1,6 @@
 //! What is said of bytes that begin no token, and of what C has and this subset leaves out.
 
-use crate::source::{Source, Told, back, before, front, shown_text, spelled_at, told_of};
+use crate::source::{Source, Told, back, before, front, is_word, shown_text, spelled_at, told_of};
 use text::Said;
 
 const BYTE_ORDER_MARK: &str = "the text begins with a byte order mark";
@@ -59,12 +59,16 @@ pub(crate) fn say_byte(said: &mut Said, text: &[u8], at: usize) {
     }
 }
 
-/// Returns the word or the sign after blanks.
+/// Returns the word after blanks, if one stands there.
 pub(crate) fn after_blanks<'t>(text: &'t [u8], at: usize) -> &'t [u8] {
     let rest = back(text, at);
-    match rest.iter().position(|byte| *byte != b' ') {
+    let word = match rest.iter().position(|byte| *byte != b' ') {
         Some(n) => spelled_at(rest, n),
         None => b"",
+    };
+    match word {
+        [first, ..] if is_word(*first) => word,
+        _ => b"",
     }
 }
 
@@ -88,17 +92,18 @@ fn say_quoted(said: &mut Said, text: &[u8], at: usize) {
         "write the character's number",
     );
     let number = match back(text, at.saturating_add(1)) {
-        [b'\\', b'n', ..] => Some(10),
-        [b'\\', b't', ..] => Some(9),
-        [b'\\', b'0', ..] => Some(0),
-        [b'\\', b'r', ..] => Some(13),
-        [b'\\', b'a', ..] => Some(7),
-        [b'\\', b'b', ..] => Some(8),
-        [b'\\', b'f', ..] => Some(12),
-        [b'\\', b'v', ..] => Some(11),
-        [b'\\', letter @ (b'\\' | b'\'' | b'"'), ..] => Some(*letter),
-        [b'\\', ..] | [] => None,
-        [letter, ..] => Some(*letter),
+        [b'\\', b'n', b'\'', ..] => Some(10),
+        [b'\\', b't', b'\'', ..] => Some(9),
+        [b'\\', b'0', b'\'', ..] => Some(0),
+        [b'\\', b'r', b'\'', ..] => Some(13),
+        [b'\\', b'a', b'\'', ..] => Some(7),
+        [b'\\', b'b', b'\'', ..] => Some(8),
+        [b'\\', b'f', b'\'', ..] => Some(12),
+        [b'\\', b'v', b'\'', ..] => Some(11),
+        [b'\\', letter @ (b'\\' | b'\'' | b'"'), b'\'', ..] => Some(*letter),
+        [b'\\' | b'\'', ..] => None,
+        [letter, b'\'', ..] => Some(*letter),
+        _ => None,
     };
     if let Some(number) = number {
         said.hint.put(&format_args!(": {number}"));
@@ -134,6 +139,7 @@ fn say_sign(said: &mut Said, source: &Source<'_>, at: usize) {
     };
     let left_out = match back(source.text, at) {
         [b'.', b'0'..=b'9', ..] => Some(NO_FLOATING),
+        [b'\\', b'\n' | b'\r', ..] => Some("leave it out: a statement may go on in the next line"),
         _ => told_of(LEFT_OUT, sign),
     };
     if let Some(operand) = operand {

@@ -58,7 +58,7 @@ pub fn explain(alloc: Global, text: &[u8], fault: SourceFault) -> Result<Explana
             FrontFaultKind::Syntax => {
                 let k = source.index_of(at);
                 let expected = expected_words(alloc, &source, k)?;
-                say_syntax(&mut said, &source, k, expected.as_slice());
+                say_syntax(alloc, &mut said, &source, k, expected.as_slice())?;
             }
             FrontFaultKind::Constant => say_constant(&mut said, &source, at),
             FrontFaultKind::Size => say_size(&mut said, &source, at),

@@ -1,15 +1,17 @@
 //! What is said of the first token that can't stand.
 
-use crate::headers::{NO_CASTS, type_hint};
+use crate::headers::{NO_CASTS, type_hint, word_hint};
 use crate::missing::{hint_brace, hint_semicolon};
-use crate::source::{Source, TYPES, before};
+use crate::near_names::nearest_keyword;
+use crate::source::{Source, TYPES, after, before};
 use Fact::{
     AfterAssign, AfterCall, AfterDeclared, AfterName, AfterNoOperand, AfterOperand, AfterUnknown,
-    AtFileScope, Before, BeginsWithName, BeginsWithReturn, BeginsWithType, InFunction,
-    InNoBrackets, InNoParentheses, InParentheses, Is, IsConstant, IsFirst, IsName, IsOperator,
-    IsPointerSign, IsSecond, IsType,
+    AtFileScope, Before, BeginsWithName, BeginsWithReturn, BeginsWithType, InBrackets, InFor,
+    InFunction, InNoBrackets, InNoParentheses, InParentheses, Is, IsConstant, IsFirst, IsName,
+    IsOperator, IsPointerSign, IsSecond, IsType, NameBefore, Next,
 };
 use c_tokens::{JumpWord, Mark, Token};
+use std::alloc::{AllocError, Global};
 use text::Said;
 
 /// What can be found of a token that can't stand there.
@@ -21,8 +23,11 @@ enum Fact {
     IsOperator,
     /// In C it could make or follow a pointer.
     IsPointerSign,
-    /// This stands so many tokens before it.
+    /// This stands so many tokens before it, or a name.
     Before(usize, Mark),
+    NameBefore(usize),
+    /// This is the next token.
+    Next(Mark),
     AfterName,
     /// What stands before it is declared nowhere.
     AfterUnknown,
@@ -47,7 +52,10 @@ enum Fact {
     AtFileScope,
     InParentheses,
     InNoParentheses,
+    InBrackets,
     InNoBrackets,
+    /// In the parentheses of a `for`.
+    InFor,
 }
 
 #[rattlefmt::skip]
@@ -73,11 +81,41 @@ const ARRAY_LENGTH: &str = "an array's length is a number: int a[16];";
 
 const COMPARES: &str = "'==' compares: write '=' to assign";
 
+const COMPARES_ALONE: &str = "'==' compares";
+
 const VOID: &str = "a variable is int or unsigned";
+
+const FOR: &str = "a for has two ';': for (i = 0; i < 3; i = i + 1)";
+
+const ONE_INDEX: &str = "an array has one index: write a[8 * i + j]";
 
 const STATEMENT: &str = "a statement is an assignment or a call: x = x + 1; f(x);";
 
-/// What is written in place of calls that the subset leaves out. The first hint holds whose facts hold, of these and then of the others.
+/// What is written in place of signs and words that stand together and mean something elsewhere. The first hint holds whose facts hold, of
+/// these and then of the others.
+#[rattlefmt::skip]
+const PAIR_HINTS: &[(&[Fact], &str)] = &[
+    (&[Is(Mark::Star), Next(Mark::Slash)], "this '*/' ends no comment: comments don't nest"),
+    (&[Is(Mark::Star), Before(1, Mark::Star)], "there is no power: multiply"),
+    (&[Is(Mark::Assign), Next(Mark::LessSign)], "write <="),
+    (&[Is(Mark::Assign), Next(Mark::GreaterSign)], "write >="),
+    (&[Is(Mark::Assign), Next(Mark::Bang)], "write !="),
+    (&[Is(Mark::Assign), Before(1, Mark::EqualEqual)], COMPARES_ALONE),
+    (&[Is(Mark::GreaterSign), Before(1, Mark::LessSign)], "write !="),
+    (&[Is(Mark::Colon), Next(Mark::Assign)], "write = to assign"),
+    (&[Is(Mark::LeftParen), Before(1, Mark::Else)], "write else if (..)"),
+    (&[Is(Mark::Unsigned), Before(1, Mark::Int)], "write unsigned"),
+    (&[Is(Mark::Semicolon), Before(2, Mark::LeftParen), Before(3, Mark::For)], "what a for begins with is an assignment, or nothing: for (; i < 3; i = i + 1)"),
+    (&[Is(Mark::Semicolon), InFor], FOR),
+    (&[Is(Mark::RightParen), InFor], FOR),
+    (&[IsType, Before(1, Mark::LeftParen), NameBefore(2), InFunction], "what a call passes has no type: f() or f(1)"),
+    (&[AtFileScope, IsFirst, Is(Mark::Semicolon), Before(1, Mark::RightBrace)], "leave out the ';' behind a function"),
+    (&[AtFileScope, Is(Mark::Semicolon), Before(1, Mark::RightParen)], "there are no prototypes: put the function before its callers"),
+    (&[AtFileScope, Is(Mark::Char), InParentheses], "a parameter is int or unsigned, and main is int main(void)"),
+    (&[Is(Mark::Comma), InBrackets], ONE_INDEX),
+];
+
+/// What is written in place of calls that the subset leaves out.
 #[rattlefmt::skip]
 const CALL_HINTS: &[(&[Fact], &str)] = &[
     (&[InFunction, Is(Mark::LeftParen), AfterDeclared],
@@ -104,7 +142,7 @@ const HINTS: &[(&[Fact], &str)] = &[
     (&[Is(Mark::Comma), BeginsWithType, InNoParentheses], "one declaration has one name: int i; int j;"),
     (&[Is(Mark::Comma), InFunction, AfterOperand], "there is no comma operator: write two statements"),
     (&[Is(Mark::Comma), AtFileScope], PARAMETER),
-    (&[Is(Mark::LeftBracket), Before(1, Mark::RightBracket)], "an array has one index: write a[8 * i + j]"),
+    (&[Is(Mark::LeftBracket), Before(1, Mark::RightBracket)], ONE_INDEX),
     (&[Is(Mark::LeftBracket), AfterDeclared, InFunction], "an array stands at file scope: put its declaration before the function"),
     (&[Is(Mark::LeftBracket), AfterDeclared, InParentheses], "an array can't be passed: pass an index into one at file scope"),
     (&[Before(1, Mark::LeftBracket), BeginsWithType, AtFileScope], ARRAY_LENGTH),
@@ -118,7 +156,6 @@ const HINTS: &[(&[Fact], &str)] = &[
     (&[AtFileScope, Is(Mark::Semicolon), Before(2, Mark::Void)], VOID),
     (&[AtFileScope, BeginsWithType, Before(2, Mark::Char)], CHAR),
     (&[AtFileScope, BeginsWithType, AfterAssign], "a variable at file scope begins with a number: compute its value in main"),
-    (&[AtFileScope, Is(Mark::Semicolon), Before(1, Mark::RightParen)], "there are no prototypes: put the function before its callers"),
     (&[AtFileScope, Is(Mark::RightParen), Before(1, Mark::LeftParen)], "write (void) where there are no parameters"),
     (&[AtFileScope, InParentheses], PARAMETER),
     (&[Is(Mark::Else)], "put the statements between if and else into braces"),
@@ -168,6 +205,8 @@ impl<'s, 't> Found<'s, 't> {
             IsOperator => source.is_one(self.token, OPERATORS),
             IsPointerSign => source.is_one(self.token, POINTER_SIGNS),
             Before(n, mark) => source.is(before(self.token, *n), *mark),
+            NameBefore(n) => source.is_name(before(self.token, *n)),
+            Next(mark) => source.is(after(self.token, 1), *mark),
             AfterName => source.is_name(last),
             AfterUnknown => source.declaration_of(source.spelling(last)).is_none(),
             AfterDeclared => source.is_declared(last),
@@ -189,7 +228,11 @@ impl<'s, 't> Found<'s, 't> {
             AtFileScope => !self.is_in(Mark::LeftBrace),
             InParentheses => self.is_in(Mark::LeftParen),
             InNoParentheses => !self.is_in(Mark::LeftParen),
+            InBrackets => self.is_in(Mark::LeftBracket),
             InNoBrackets => !self.is_in(Mark::LeftBracket),
+            InFor => source
+                .open_before(self.token, Mark::LeftParen)
+                .is_some_and(|open| source.is(before(open, 1), Mark::For)),
         }
     }
 
@@ -204,9 +247,12 @@ impl<'s, 't> Found<'s, 't> {
     }
 }
 
-/// Returns the first hint about a call whose facts hold, or none.
+/// Returns the first hint about signs that stand together or about a call whose facts hold, or none.
 fn call_hint(found: &Found<'_, '_>) -> &'static str {
-    found.first_hint(CALL_HINTS)
+    match found.first_hint(PAIR_HINTS) {
+        "" => found.first_hint(CALL_HINTS),
+        hint => hint,
+    }
 }
 
 /// Returns the first hint whose facts hold, or none.
@@ -246,7 +292,13 @@ fn say_expected(said: &mut Said, source: &Source<'_>, k: usize, expected: &[&str
 }
 
 /// Says what is wrong with the first token that can't stand, or of a text that ends too early.
-pub(crate) fn say_syntax(said: &mut Said, source: &Source<'_>, k: usize, expected: &[&str]) {
+pub(crate) fn say_syntax(
+    alloc: Global,
+    said: &mut Said,
+    source: &Source<'_>,
+    k: usize,
+    expected: &[&str],
+) -> Result<(), AllocError> {
     say_expected(said, source, k, expected);
     if k >= source.count() {
         if let Some(open) = source.open_before(source.count(), Mark::LeftBrace) {
@@ -254,12 +306,16 @@ pub(crate) fn say_syntax(said: &mut Said, source: &Source<'_>, k: usize, expecte
             source.put_spot(&mut said.hint, open);
             said.hint(" isn't closed");
         }
+    } else if let Some(word) = nearest_keyword(alloc, source, k)? {
+        said.hint.put(&format_args!("did you mean '{word}'?"));
     } else if !hint_brace(said, source, k) && !hint_semicolon(said, source, k, expected) {
         let by_facts = hint_by_facts(&Found {
             source,
             token: k,
             first: source.first_of(k),
         });
-        said.hint(type_hint(source, k).unwrap_or(by_facts));
+        let by_words = word_hint(source, k).or(type_hint(source, k));
+        said.hint(by_words.unwrap_or(by_facts));
     }
+    Ok(())
 }

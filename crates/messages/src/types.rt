@@ -13,6 +13,7 @@ use text::Said;
 #[rattlefmt::skip]
 const LIBRARY: &[Told] = &[
     (&[b"printf", b"print", b"puts", b"putchar"], "out(e); prints a word in decimal"),
+    (&[b"scanf", b"getchar", b"gets", b"fgets"], "there is no input: write the number"),
     (&[b"exit", b"abort"], "return from main ends the program"),
     (&[b"assert"], "write if (!(e)) out(e);"),
     (&[b"NULL"], "there are no pointers: write an index, as 0"),
