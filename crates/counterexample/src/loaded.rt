@@ -28,8 +28,8 @@ fn put_loaded(
     Ok(())
 }
 
-/// Returns the addresses of the words of memory that block and order load from a start, wholly or a byte of them. What these held then, and
-/// the registers, tell what both do.
+/// Returns the addresses of the words of memory that instructions of block and order load from a start, wholly or a byte of them. What is
+/// stored, and the slot, which loads nothing in a clean order, add none.
 pub fn loaded_words(
     alloc: Global,
     block: &Block,

@@ -8,14 +8,6 @@ use mips_isa::{NonzeroReg, Plain, WordDigits};
 use std::alloc::{AllocError, Global};
 use text::Writer;
 
-/// Reports whether an instruction reads what the register holds at the start.
-fn insts_read(insts: &[Plain], register: NonzeroReg) -> bool {
-    let first = insts
-        .iter()
-        .find(|inst| inst.action().touches(register.reg()));
-    matches!(first, Some(inst) if inst.reads(register.reg()))
-}
-
 /// Reports whether the exit reads the register.
 fn exit_reads(exit: &Exit, register: NonzeroReg) -> bool {
     let q = register.index();
@@ -25,6 +17,19 @@ fn exit_reads(exit: &Exit, register: NonzeroReg) -> bool {
         Exit::Return => q == 31,
         Exit::Out(_) | Exit::Halt => q == 4,
         _ => false,
+    }
+}
+
+/// Reports whether a run of instructions, an exit and its slot reads what the register holds at the start.
+fn run_reads(insts: &[Plain], exit: &Exit, slot: Option<Plain>, register: NonzeroReg) -> bool {
+    let first = insts
+        .iter()
+        .find(|inst| inst.action().touches(register.reg()));
+    match first {
+        Some(inst) => inst.reads(register.reg()),
+        None => {
+            exit_reads(exit, register) || matches!(slot, Some(inst) if inst.reads(register.reg()))
+        }
     }
 }
 
@@ -38,9 +43,8 @@ fn put_start(
 ) {
     for r in 1..32u8 {
         if let Some(register) = NonzeroReg::new(r) {
-            let is_read = insts_read(block.insts(), register)
-                || insts_read(order.insts(), register)
-                || exit_reads(&block.exit(), register);
+            let is_read = run_reads(block.insts(), &block.exit(), None, register)
+                || run_reads(order.insts(), &order.exit(), order.slot(), register);
             // one of the two may leave this one as it was
             let is_left = matches!(*difference, Difference::Register(d) if d == register.reg());
             if is_read || is_left {
@@ -63,23 +67,38 @@ fn put_word(out: &mut Writer, before: &str, word: u32) {
     out.put(&WordDigits(word));
 }
 
-/// Writes HI and LO, if they are read, and the words of memory that are loaded.
+/// Writes the word of memory at an address.
+fn put_filled(out: &mut Writer, start: &Start, address: u32) {
+    put_word(out, "  the word at 0x", address);
+    put_word(out, " = 0x", start.filling.word(address / 4));
+    out.text("\n");
+}
+
+/// Writes HI and LO and the words of memory, if they are read or if the two differ there.
 fn put_rest(
     alloc: Global,
     out: &mut Writer,
     block: &Block,
     order: &Order,
     start: &Start,
+    difference: &Difference,
 ) -> Result<(), AllocError> {
-    if moves_before_product(block.insts()) || moves_before_product(order.insts()) {
+    // one of the two may leave these as they were
+    let is_left = matches!(*difference, Difference::Hi | Difference::Lo);
+    if is_left || moves_before_product(block.insts()) || moves_before_product(order.insts()) {
         put_word(out, "  hi = 0x", start.hi);
         put_word(out, "\n  lo = 0x", start.lo);
         out.text("\n");
     }
-    for address in &loaded_words(alloc, block, order, start)? {
-        put_word(out, "  the word at 0x", *address);
-        put_word(out, " = 0x", start.filling.word(*address / 4));
-        out.text("\n");
+    let words = loaded_words(alloc, block, order, start)?;
+    for address in &words {
+        put_filled(out, start, *address);
+    }
+    if let Difference::Memory(byte) = *difference {
+        let address = byte - byte % 4;
+        if !words.contains(&address) {
+            put_filled(out, start, address);
+        }
     }
     Ok(())
 }
@@ -134,7 +153,7 @@ pub fn put_found(
     };
     out.text("the order is wrong: it does otherwise from a start with\n");
     put_start(out, block, order, &start, &difference);
-    put_rest(alloc, out, block, order, &start)?;
+    put_rest(alloc, out, block, order, &start, &difference)?;
     if let Some(left) = run_block(alloc, block, &start, link)? {
         put_side(out, "  block: ", &left, &difference);
     }
