@@ -3,7 +3,7 @@
 ghost use Rattle.std.specs.Prelude.{IfOk};
 ghost use Rattle.text.specs.Shown.{IsPrintableExplanation};
 
-use crate::operands::say_hint_of_operands;
+use crate::operands::{NO_LABELS, NO_NUMBER, say_hint_of_operands};
 use block_text::{ExitName, cut, exit_named, first_line, mnemonic_named};
 use mips_isa::Mnemonic;
 use std::alloc::{AllocError, Global};
@@ -24,11 +24,11 @@ const SIGNED: &str = "n from -32768 to 32767";
 
 const UNSIGNED: &str = "n from 0 to 65535";
 
-const NO_NUMBER: &str = "registers are $0 to $31";
-
 const BLOCKS: &str = "numbers of blocks are from 0 to 1048575";
 
 const ALONE: &str = "nothing stands behind it";
+
+const NO_COMMENTS: &str = "there are no comments";
 
 /// Operands as they are shown, and what they may be.
 type Form = (&'static str, &'static str);
@@ -38,8 +38,11 @@ const OTHERS: &[(&[u8], &str)] = &[
     (b"add", "write addu, which doesn't trap"),
     (b"addi", "write addiu, which doesn't trap"),
     (b"sub", "write subu, which doesn't trap"),
+    (b"subi", "write addiu with -n"),
+    (b"subiu", "write addiu with -n"),
+    (b"neg", "write subu $rd,$0,$rs"),
     (b"move", "write addu $rd,$rs,$0"),
-    (b"li", "write addiu $rt,$0,n"),
+    (b"li", "write addiu $rt,$0,n, or lui and ori"),
     (b"not", "write nor $rd,$rs,$0"),
     (b"lb", "write lbu"),
     (b"j", "write goto T"),
@@ -125,6 +128,40 @@ fn stage_after(stage: Stage, line: &[u8]) -> Stage {
     }
 }
 
+/// Reports whether a line has a mark that begins a comment in assemblers.
+fn has_comment(line: &[u8]) -> bool {
+    line.contains(&b'#') || line.contains(&b';')
+}
+
+/// Reports whether a word that names nothing names an instruction or an exit in small letters.
+fn has_capitals(word: &[u8]) -> bool {
+    let mut small = [0; 6];
+    for (k, byte) in word.iter().enumerate() {
+        if let Some(place) = small.get_mut(k) {
+            *place = byte.to_ascii_lowercase();
+        }
+    }
+    let small = &small[..word.len().min(6)];
+    word.len() <= 6 && instruction(small).or(exit(small)).is_some()
+}
+
+/// Returns what helps where a line begins with a word that is no instruction; nothing where nothing does.
+fn hint_of_word(line: &[u8], word: &[u8]) -> &'static str {
+    if let Some((_, instead)) = OTHERS.iter().find(|row| row.0 == word) {
+        return *instead;
+    }
+    if has_comment(line) {
+        return NO_COMMENTS;
+    }
+    if word.ends_with(b":") {
+        return NO_LABELS;
+    }
+    if has_capitals(word) {
+        return "write it in small letters";
+    }
+    ""
+}
+
 /// Says what is wrong with a line that should be an instruction or an exit.
 fn say_instruction(said: &mut Said, line: &[u8]) {
     if line.is_empty() {
@@ -140,10 +177,7 @@ fn say_instruction(said: &mut Said, line: &[u8]) {
             str::from_utf8(shown).unwrap_or("?"),
             "is no instruction here",
         );
-        if let Some((_, instead)) = OTHERS.iter().find(|row| row.0 == word) {
-            said.hint(instead);
-        }
-        return;
+        return said.hint(hint_of_word(line, word));
     };
     if line.starts_with(b"lw $0,") || line.starts_with(b"lbu $0,") {
         return said.say("register 0 can't be loaded");
@@ -151,9 +185,24 @@ fn say_instruction(said: &mut Said, line: &[u8]) {
     said.say("expected ");
     said.say(str::from_utf8(word).unwrap_or("?"));
     said.say(operands);
-    if !say_hint_of_operands(said, word, line) {
-        said.hint(range);
+    if has_comment(line) {
+        return said.hint(NO_COMMENTS);
     }
+    say_hint_of_operands(said, line, operands, range);
+}
+
+/// Says what is wrong with a line `slot INSTRUCTION`.
+fn say_slot(said: &mut Said, inst: &[u8]) {
+    let word = mnemonic(inst);
+    if matches!(word, b"out" | b"halt" | b"syscall") {
+        return said.say("no call to the system can be in a slot");
+    }
+    let is_jump = exit(word).is_some()
+        || matches!(word, b"j" | b"b" | b"jal" | b"jr" | b"beqz" | b"bnez");
+    if is_jump {
+        return said.say("no branch or jump can be in a slot");
+    }
+    say_instruction(said, inst)
 }
 
 /// Says what is wrong with a line between the head of a block or an order and its exit.
@@ -179,6 +228,14 @@ fn expected_line(stage: Stage) -> &'static str {
     }
 }
 
+/// Says what has to stand at a stage in place of a line.
+fn say_expected(said: &mut Said, stage: Stage, line: &[u8]) {
+    said.say(expected_line(stage));
+    if has_comment(line) {
+        said.hint(NO_COMMENTS);
+    }
+}
+
 /// Says what is wrong with a line at its stage.
 fn say_line(said: &mut Said, stage: Stage, line: &[u8]) {
     if line.ends_with(b"\r") {
@@ -200,12 +257,12 @@ fn say_line(said: &mut Said, stage: Stage, line: &[u8]) {
         Stage::InBlock(before) => say_inside(said, line, before, BLOCK, "a block"),
         Stage::InOrder(before) => say_inside(said, line, before, ORDER, "an order"),
         Stage::Slot => match line.strip_prefix(b"slot ") {
-            Some(inst) => say_instruction(said, inst),
-            None => said.say(expected_line(stage)),
+            Some(inst) => say_slot(said, inst),
+            None => say_expected(said, stage, line),
         },
         Stage::NoSlot if line.starts_with(b"slot") => said.say("out and halt have no slot"),
         Stage::NoSlot | Stage::Nothing => said.say("nothing can stand behind the order"),
-        Stage::Block | Stage::Order => said.say(expected_line(stage)),
+        Stage::Block | Stage::Order => say_expected(said, stage, line),
     }
 }
 
