@@ -2,7 +2,7 @@
 ghost use Rattle.std.specs.Prelude.{⊤, ◌≤◌, length};
 
 use list_scheduler::{Reorder, Resources};
-use mblock::{Block, Order};
+use mblock::{Block, Order, plain};
 use mips_isa::Plain;
 use std::alloc::{AllocError, Global};
 
@@ -26,7 +26,10 @@ impl Reorder for LoadsFirst {
         }
         let exit = block.exit();
         let slot = exit.has_slot().then(Plain::nop);
-        Order::new(pad_loads(alloc, insts.as_slice())?, exit, slot).ok_or(AllocError)
+        match Order::new(pad_loads(alloc, insts.as_slice())?, exit, slot) {
+            Some(order) => Ok(order),
+            None => plain(alloc, block),
+        }
     }
 }
 
