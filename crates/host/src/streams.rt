@@ -3,7 +3,7 @@
 use std::io;
 use std::io::{ErrorKind, Write};
 
-/// A stream that takes nothing after a write that it refused. A buffer before it writes again when it is dropped.
+/// A stream that takes nothing after a write that it refused. So a buffer in front of it, which writes what it holds when it is dropped, adds nothing after a refused write.
 #[derive(Drop)]
 pub struct UntilRefused<W> {
     inner: W,
