@@ -437,13 +437,25 @@ function showOrder() {
 
 const focusOrder = () => $('order').querySelector('[tabindex="0"]')?.focus();
 
-let asked = 0;
+// What was said of another order doesn't stay while this one waits for its verdict.
+function showJudging() {
+  for (const id of ['why', 'start', 'from']) say(id, '');
+  for (const id of ['leaves', 'rows']) $(id).replaceChildren();
+  Object.assign($('verdict'), { className: '', textContent: 'judging ..' });
+  $('witness').hidden = true;
+  showGoal();
+}
+
+let asked = 0, lateVerdict = null;
 async function judge() {
   const mine = ++asked;
   page.said = '';
+  lateVerdict ??= setTimeout(showJudging, 100);
   const { block } = page.chosen;
   const { status, text } = await client.ask('explain', { text: pairText(block, page.order) }).catch(({ message }) => ({ text: message }));
   if (mine !== asked) return;
+  clearTimeout(lateVerdict);
+  lateVerdict = null;
   const told = status === 1 ? parseTold(text) : null;
   page.said = told ? '' : text;
   page.badLine = told?.line ? told.line - block.insts.length - 4 : null;
@@ -983,12 +995,17 @@ async function runOn() {
   $('stop').hidden = true;
 }
 
-// What was typed while something ran is answered after it.
+// What was typed while something ran is answered after it, and what else waited is asked again.
 async function stop() {
   $('stop').hidden = true;
   say('state', 'stopped');
   await client.stop();
   if (page.tried !== page.text) refresh();
+  if (!page.chosen) return;
+  judge();
+  showParts();
+  showStage();
+  if (!page.view) goTo(0);
 }
 
 async function main() {
