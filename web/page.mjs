@@ -388,12 +388,12 @@ function graphKey(event) {
 }
 
 // ---- a block and its order
-// One's order of a block is kept while one looks at others.
+// One's order of a block is kept while one looks at others. A check text has its order itself.
 const keyOf = ({ block }) => [...block.insts, block.exit].join('\n');
 
 function chooseBlock(block) {
   page.chosen = block;
-  page.order = page.mine.get(keyOf(block)) ?? block.order;
+  page.order = (block.number === null ? null : page.mine.get(keyOf(block))) ?? block.order;
   page.at = 0;
   say('block-title', block.number === null ? 'A block of a check text' : `Block ${block.number}, ${hex(block.address)}`);
   const { insts, exit } = block.block;
