@@ -143,8 +143,18 @@ function showFault(told) {
 
 // What stands on the right isn't of the text on the left: it is dimmed, and says why.
 function setStale(why) {
-  Object.assign($('stale'), { hidden: why === null, textContent: why });
+  const below = page.chosen ? 'Below is what the last text without a fault gave.' : 'There is nothing below yet.';
+  Object.assign($('stale'), { hidden: why === null, textContent: `${why} ${below}` });
   $('right').classList.toggle('stale', why !== null);
+}
+
+// An answer that takes its time: nothing of the text before stands beside this one.
+function showWorking() {
+  $('stop').hidden = false;
+  say('state', 'working ..');
+  showRuns({ status: 1, text: '' }, null);
+  showFault(null);
+  setStale('Working.');
 }
 
 async function refresh() {
@@ -156,7 +166,7 @@ async function refresh() {
     const { text } = page;
     page.tried = text;
     const plain = $('plain').checked;
-    const late = setTimeout(() => { $('stop').hidden = false; }, 700);
+    const late = setTimeout(showWorking, 700);
     const started = performance.now();
     try {
       if (isPair(text)) await showPair(text);
@@ -168,7 +178,7 @@ async function refresh() {
       say('state', error.message);
       if (text === page.text) {
         showRuns({ status: 1, text: error.message }, null);
-        setStale('The text has no answer yet. Below is the last program that was built.');
+        setStale('The text has no answer yet.');
       }
     }
     clearTimeout(late);
@@ -219,7 +229,7 @@ async function showPair(text) {
   Object.assign(page, { image: null, blocks: [], groups: [], group: null, listing: [] });
   showRuns({ status: 1, text: '' }, null);
   showFault(pair ? null : parseTold(said));
-  setStale(pair ? null : 'The check text has a fault. Below is the last one that had none.');
+  setStale(pair ? null : 'The check text has a fault.');
   say('state', said.split('\n')[0]);
   if (!pair) return;
   // It has neither a graph nor RTL, and nothing runs.
@@ -233,7 +243,7 @@ function showProgram({ interp, build, run, list, orders }, isPlain, time) {
     page.image = null;
     showRuns({ status: 1, text: '' }, null);
     showFault(parseTold(build.text));
-    setStale(`The text has a fault. ${page.chosen ? 'Below is the last program that was built.' : 'There is no program yet.'}`);
+    setStale('The text has a fault.');
     say('state', 'fault');
     return;
   }

@@ -437,7 +437,7 @@ async function main() {
     ['bytes', String.fromCharCode(...Array.from({ length: 4000 }, (_, k) => (k * 7919) % 251))]]) {
     await page.value(`document.getElementById('state').textContent = ''`);
     await page.value(typed(value));
-    judge(`${what} has an answer`, await page.until(`${text('state')} !== ''`, 60));
+    judge(`${what} has an answer`, await page.until(`!['', 'working ..'].includes(${text('state')})`, 60));
   }
   await page.value(typed('int main(void) {\n    out(6);\n    return 0;\n}\n'));
   judge('the page lives', await page.until(`${text('interp')}.startsWith('6\\ndone 0')`));
