@@ -68,7 +68,7 @@ class Client {
 
 let client = null;
 const page = {
-  text: '', lines: [], marks: {}, told: null, wrong: null, image: null, blocks: [], groups: [], group: null,
+  text: '', built: '', lines: [], marks: {}, told: null, wrong: null, image: null, blocks: [], groups: [], group: null,
   chosen: null, order: null, at: 0, said: '', stages: new Map(), tried: null, isRunning: false, isOther: false,
   mine: new Map(), past: [], badLine: null, globals: [], isPlaying: false, goal: null, wanted: {}, colours: null,
   listing: [], view: null, before: null, breakpoint: null, cursor: null, touched: null, isBusy: false, isStale: false,
@@ -250,7 +250,7 @@ function showProgram({ interp, build, run, list, orders }, isPlain, time) {
   const blocks = orders.status === 0 ? parseOrders(orders.text, isPlain) : [];
   const groups = groupBlocks(blocks, functionsOf(page.text));
   Object.assign(page, { image: build.image, blocks, groups, listing: codeLines(list.text), globals: globalsOf(page.text), breakpoint: null });
-  page.stages.clear();
+  Object.assign(page, { stages: new Map(), built: page.text });
   document.body.classList.remove('own');
   showFault(null);
   setStale(null);
@@ -260,20 +260,25 @@ function showProgram({ interp, build, run, list, orders }, isPlain, time) {
   goTo(0);
 }
 
-// What `mcc show` prints of a stage, of a function or of all, asked for once.
+// What `mcc show` prints of a stage, of a function or of all, asked for once; again where it was stopped.
 function stageOf(stage, group) {
   const name = group && group !== page.groups[0] ? group.name : '';
   const key = `${stage} ${name}`;
-  const ask = () => client.ask('show', { text: page.text, stage, name }).then(shown => shown.text, error => error.message + '\n');
-  if (!page.stages.has(key)) page.stages.set(key, ask());
-  return page.stages.get(key);
+  const { stages, built: text } = page;
+  const ask = () => client.ask('show', { text, stage, name }).then(shown => shown.text, error => {
+    stages.delete(key);
+    return error.message + '\n';
+  });
+  if (!stages.has(key)) stages.set(key, ask());
+  return stages.get(key);
 }
 
 async function showStage() {
   if ($('stages').hidden || !page.group) return;
-  const { text } = page;
-  const shown = await stageOf($('stage').value, $('whole').checked ? null : page.group);
-  if (text === page.text) say('stage-text', cut(shown));
+  const wanted = stageOf($('stage').value, $('whole').checked ? null : page.group);
+  showStage.wanted = wanted;
+  const shown = await wanted;
+  if (wanted === showStage.wanted) say('stage-text', cut(shown));
 }
 
 // RTL and the terms of the chosen block.
