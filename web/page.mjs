@@ -232,10 +232,18 @@ async function showPair(text) {
   setStale(pair ? null : 'The check text has a fault.');
   say('state', said.split('\n')[0]);
   if (!pair) return;
-  // It has neither a graph nor RTL, and nothing runs.
-  document.body.classList.add('own');
-  chooseTab('orders');
+  setOwn(true);
   chooseBlock({ number: null, owner: null, address: 0, ...pair });
+}
+
+// A check text has neither a graph nor RTL, and nothing runs.
+function setOwn(isOwn) {
+  document.body.classList.toggle('own', isOwn);
+  for (const tab of TABS.slice(1)) {
+    $('tab-' + tab).disabled = isOwn;
+    $('tab-' + tab).title = isOwn ? 'A check text has no program' : '';
+  }
+  if (isOwn) chooseTab('orders');
 }
 
 function showProgram({ interp, build, run, list, orders }, isPlain, time) {
@@ -251,7 +259,7 @@ function showProgram({ interp, build, run, list, orders }, isPlain, time) {
   const groups = groupBlocks(blocks, functionsOf(page.text));
   Object.assign(page, { image: build.image, blocks, groups, listing: codeLines(list.text), globals: globalsOf(page.text), breakpoint: null });
   Object.assign(page, { stages: new Map(), built: page.text });
-  document.body.classList.remove('own');
+  setOwn(false);
   showFault(null);
   setStale(null);
   showRuns(interp, run);
@@ -924,7 +932,7 @@ function openState({ c, v, f, b, o, g }) {
   page.isOther = Boolean(c);
   if (c === page.text && page.groups.length) showFunctions();
   else if (c) putText(c);
-  if (TABS.includes(v)) chooseTab(v);
+  if (TABS.includes(v)) chooseTab(isPair($('source').value) ? 'orders' : v);
 }
 
 // An exercise: an order of at most so many words that means its block.
@@ -984,6 +992,7 @@ function listenToTabs() {
       const by = { ArrowRight: 1, ArrowLeft: -1 }[event.key];
       if (!by) return;
       const next = $('tab-' + TABS[(k + by + TABS.length) % TABS.length]);
+      if (next.disabled) return;
       next.click();
       next.focus();
     };
