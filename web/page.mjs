@@ -71,7 +71,7 @@ const page = {
   text: '', built: '', lines: [], marks: {}, told: null, wrong: null, image: null, blocks: [], groups: [], group: null,
   chosen: null, order: null, at: 0, said: '', stages: new Map(), tried: null, isRunning: false, isOther: false,
   mine: new Map(), past: [], badLine: null, globals: [], isPlaying: false, goal: null, wanted: {}, colours: null,
-  listing: [], view: null, before: null, breakpoint: null, cursor: null, touched: null, isBusy: false, isStale: false,
+  listing: [], view: null, before: null, breakpoint: null, cursor: null, touched: null, isBusy: false, isStale: false, isDimmed: false,
 };
 
 // ---- the C text
@@ -146,6 +146,8 @@ function setStale(why) {
   const below = page.chosen ? 'Below is what the last text without a fault gave.' : 'There is nothing below yet.';
   Object.assign($('stale'), { hidden: why === null, textContent: `${why} ${below}` });
   $('right').classList.toggle('stale', why !== null);
+  page.isDimmed = why !== null;
+  showGoal();
 }
 
 // An answer that takes its time: nothing of the text before stands beside this one.
@@ -427,6 +429,7 @@ function chooseBlock(block) {
   showGutter();
   showParts();
   judge();
+  tieGoal();
 }
 
 // The block of a word of the image.
@@ -911,7 +914,7 @@ function stateOf() {
   const state = { c: text, v: TABS.find(tab => !$(tab).hidden) };
   if (group && chosen?.number != null) Object.assign(state, { f: group.name, b: chosen.number });
   if (chosen && order && order !== chosen.order && chosen.number !== null) state.o = pairText(chosen.block, order);
-  if (goal !== null) state.g = `at most ${goal} words and same`;
+  if (goal) state.g = `at most ${goal.words} words and same` + (goal.number === (chosen?.number ?? null) ? '' : ` in block ${goal.number}`);
   return state;
 }
 
@@ -928,27 +931,42 @@ function openState({ c, v, f, b, o, g }) {
   const pair = o && parsePair(o);
   if (pair) page.mine.set(keyOf(pair), pair.order);
   page.wanted = { name: f, number: Number(b) };
-  setGoal(/\d+/.exec(g ?? '')?.[0] ?? null);
+  const [, words = '', number = b] = /(\d+)(?:.* in block (\d+))?/.exec(g ?? '') ?? [];
+  setGoal(words, number === undefined ? null : Number(number));
   page.isOther = Boolean(c);
   if (c === page.text && page.groups.length) showFunctions();
+  else if (c === page.text) tieGoal();
   else if (c) putText(c);
   if (TABS.includes(v)) chooseTab(isPair($('source').value) ? 'orders' : v);
 }
 
-// An exercise: an order of at most so many words that means its block.
-function setGoal(words) {
-  page.goal = words === null || words === '' ? null : Number(words);
-  $('goal-words').value = page.goal ?? '';
+// An exercise: an order of at most so many words that means its block, which is that of a number, or else the chosen one.
+function setGoal(words, number = null) {
+  page.goal = words === '' ? null : { words: Number(words), number, key: null };
+  $('goal-words').value = words;
   showGoal();
 }
 
+// The goal knows its block once that is there.
+function tieGoal() {
+  const { goal, chosen, blocks } = page;
+  if (goal && chosen && goal.key === null) {
+    const block = blocks.find(b => b.number === goal.number) ?? chosen;
+    Object.assign(goal, { number: block.number, key: keyOf(block) });
+  }
+  showGoal();
+}
+
+// Only the goal's own block is judged by it.
 function showGoal() {
-  const { goal, order, said } = page;
-  $('goal').hidden = goal === null;
-  if (goal === null || !order) return;
-  const isReached = said.trim() === 'same' && orderWords(order) <= goal;
-  const now = isReached ? 'Reached!' : `Now: ${orderWords(order)} words, ${said.split('\n')[0] || 'no order'}.`;
-  Object.assign($('goal'), { className: isReached ? 'same' : '', textContent: `Goal: at most ${goal} words and same. ${now}` });
+  const { goal, chosen, order, said } = page;
+  $('goal').hidden = goal === null || goal.key === null || page.isDimmed;
+  if ($('goal').hidden || !chosen) return;
+  const isOwn = goal.key === keyOf(chosen) && goal.number === chosen.number;
+  const isReached = isOwn && said.trim() === 'same' && orderWords(order) <= goal.words;
+  const now = isReached ? 'Reached!' : `Now: ${orderWords(order)} words, ${said.split('\n')[0] || (lateVerdict ? 'judging ..' : 'no order')}.`;
+  const where = isOwn ? '' : [null, chosen.number].includes(goal.number) ? 'of another block, ' : `of block ${goal.number}, `;
+  Object.assign($('goal'), { className: isReached ? 'same' : '', textContent: `Goal: ${where}at most ${goal.words} words and same.${isOwn ? ' ' + now : ''}` });
 }
 
 async function copyLink() {
@@ -1055,7 +1073,10 @@ async function main() {
   $('run-on').onclick = runOn;
   $('stop').onclick = stop;
   onhashchange = () => openState(stateOfAddress());
-  $('goal-words').oninput = () => setGoal($('goal-words').value);
+  $('goal-words').oninput = () => {
+    setGoal($('goal-words').value, page.chosen?.number ?? null);
+    tieGoal();
+  };
   const wasm = Uint8Array.from(atob($('wasm').textContent.trim()), c => c.charCodeAt(0));
   client = new Client($('worker').textContent, wasm);
   const started = performance.now();
