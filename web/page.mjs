@@ -147,6 +147,7 @@ function setStale(why) {
   Object.assign($('stale'), { hidden: why === null, textContent: `${why} ${below}` });
   $('right').classList.toggle('stale', why !== null);
   page.isDimmed = why !== null;
+  for (const tab of TABS) $(tab).inert = page.isDimmed;
   showGoal();
 }
 
@@ -228,12 +229,15 @@ async function showPair(text) {
   const { status, text: said } = await client.ask('explain', { text });
   if (text !== page.text) return;
   const pair = status === 1 ? null : parsePair(text);
+  // what was changed on the right stands there already
+  const isThere = page.chosen?.number === null && text === page.built;
   Object.assign(page, { image: null, blocks: [], groups: [], group: null, listing: [] });
   showRuns({ status: 1, text: '' }, null);
   showFault(pair ? null : parseTold(said));
-  setStale(pair ? null : 'The check text has a fault.');
+  setStale(pair || isThere ? null : 'The check text has a fault.');
   say('state', said.split('\n')[0]);
-  if (!pair) return;
+  if (isThere || !pair) return;
+  page.built = text;
   setOwn(true);
   chooseBlock({ number: null, owner: null, address: 0, ...pair });
 }
@@ -541,7 +545,11 @@ function showBoth() {
   if (isShown) $('runs').scrollIntoView({ block: 'nearest' });
 }
 
+// Where what is on the left isn't what is on the right, nothing of that is changed.
+const isOpen = () => page.chosen !== null && !page.isDimmed && (page.chosen.number !== null || page.text === page.built);
+
 function change(order, at) {
+  if (!isOpen()) return;
   page.past.push([keyOf(page.chosen), page.order, page.at]);
   setOrder(order, at);
 }
@@ -557,9 +565,8 @@ function setOrder(order, at) {
   const { chosen, mine } = page;
   Object.assign(page, { order, at, said: '', badLine: null });
   if (chosen.number === null) {
-    page.text = pairText(chosen.block, order);
-    putText(page.text);
-    showGutter();
+    page.built = pairText(chosen.block, order);
+    putText(page.built);
   } else if (order === chosen.order) mine.delete(keyOf(chosen));
   else mine.set(keyOf(chosen), order);
   keep();
@@ -611,7 +618,7 @@ const CHANGES = {
 const KEYS = { s: 'to-slot', n: 'add-nop', Delete: 'remove', Backspace: 'remove', Enter: 'edit', F2: 'edit' };
 
 function apply(name) {
-  if (!page.chosen) return;
+  if (!isOpen()) return;
   if (name === 'edit') return editLine();
   if (name === 'undo') return undoOrder();
   const changed = CHANGES[name](page.order, page.at);
@@ -688,7 +695,7 @@ function listenToOrder() {
   list.ondragend = showOrder;
   for (const name of [...Object.keys(CHANGES), 'edit', 'undo']) $(name).onclick = () => apply(name);
   $('both').onclick = showBoth;
-  $('as-text').onclick = () => putText(pairText(page.chosen.block, page.order));
+  $('as-text').onclick = () => isOpen() && putText(pairText(page.chosen.block, page.order));
 }
 
 // ---- the machine
