@@ -548,10 +548,10 @@ function showBoth() {
 // Where what is on the left isn't what is on the right, nothing of that is changed.
 const isOpen = () => page.chosen !== null && !page.isDimmed && (page.chosen.number !== null || page.text === page.built);
 
-function change(order, at) {
+function change(order, at, isFocused = true) {
   if (!isOpen()) return;
   page.past.push([keyOf(page.chosen), page.order, page.at]);
-  setOrder(order, at);
+  setOrder(order, at, isFocused);
 }
 
 // The order that was before the last change.
@@ -561,7 +561,7 @@ function undoOrder() {
 }
 
 // A check text follows its order, which follows it.
-function setOrder(order, at) {
+function setOrder(order, at, isFocused = true) {
   const { chosen, mine } = page;
   Object.assign(page, { order, at, said: '', badLine: null });
   if (chosen.number === null) {
@@ -571,7 +571,7 @@ function setOrder(order, at) {
   else mine.set(keyOf(chosen), order);
   keep();
   showOrder();
-  focusOrder();
+  if (isFocused) focusOrder();
   judge();
 }
 
@@ -584,18 +584,21 @@ function editLine() {
   item.replaceChildren(field);
   field.focus();
   field.select();
-  const end = isKept => {
+  const was = field.value;
+  const end = (isKept, isFocused) => {
     if (!field.isConnected || order !== page.order) return;
     const line = field.value.trim().replace(/ +/g, ' ');
     field.onblur = null;
     field.remove();
-    setOrder(order, at);
-    if (isKept) change(withLine(order, at, line), at);
+    showOrder();
+    if (isFocused) focusOrder();
+    if (isKept && line !== was) change(withLine(order, at, line), at, isFocused);
   };
-  field.onblur = () => end(true);
+  // who leaves the field for something else stays there
+  field.onblur = () => end(true, false);
   field.onkeydown = event => {
     event.stopPropagation();
-    if (event.key === 'Enter' || event.key === 'Escape') end(event.key === 'Enter');
+    if (event.key === 'Enter' || event.key === 'Escape') end(event.key === 'Enter', true);
   };
 }
 
