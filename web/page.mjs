@@ -143,6 +143,7 @@ function showFault(told) {
 
 // What stands on the right isn't of the text on the left: it is dimmed, and says why.
 function setStale(why) {
+  if (why !== null) keepLine();
   const below = page.chosen ? 'Below is what the last text without a fault gave.' : 'There is nothing below yet.';
   Object.assign($('stale'), { hidden: why === null, textContent: `${why} ${below}` });
   $('right').classList.toggle('stale', why !== null);
@@ -253,6 +254,7 @@ function setOwn(isOwn) {
 }
 
 function showProgram({ interp, build, run, list, orders }, isPlain, time) {
+  keepLine();
   if (build.image === null) {
     page.image = null;
     showRuns({ status: 1, text: '' }, null);
@@ -317,6 +319,7 @@ function showFunctions() {
 }
 
 function chooseGroup(k, number) {
+  keepLine();
   page.group = page.groups[k] ?? null;
   $('functions').value = k;
   if (!page.group) return;
@@ -421,6 +424,7 @@ function graphKey(event) {
 const keyOf = ({ block }) => [...block.insts, block.exit].join('\n');
 
 function chooseBlock(block) {
+  keepLine();
   page.chosen = block;
   page.order = (block.number === null ? null : page.mine.get(keyOf(block))) ?? block.order;
   page.at = 0;
@@ -601,6 +605,9 @@ function editLine() {
     if (event.key === 'Enter' || event.key === 'Escape') end(event.key === 'Enter', true);
   };
 }
+
+// The line that is being edited is put in before its block goes away.
+const keepLine = () => $('order').querySelector('input')?.onblur?.();
 
 const CHANGES = {
   up: ({ insts, slot }, at) => {
