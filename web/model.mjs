@@ -94,21 +94,20 @@ export function exitLines(text, group, block, groups) {
 export function functionsOf(text) {
   const code = codeOf(text);
   const found = [];
-  let depth = 0, start = 0, head = '';
+  // where what stands before a brace begins, and its line
+  let depth = 0, start = 0, head = -1;
   for (let at = 0, line = 1; at < code.length; at++) {
     const c = code[at];
     if (c === '\n') line++;
     if (c === '{' && depth++ === 0) {
-      const name = /(\w+)\s*\([^()]*\)\s*$/.exec(head)?.[1];
+      const name = head < 0 ? null : /(\w+)\s*\([^()]*\)$/.exec(code.slice(head, at).trimEnd())?.[1];
       if (name) found.push({ name, from: start, to: line });
     } else if (c === '}' && --depth <= 0) {
       depth = 0;
       if (found.length) found.at(-1).to = Math.max(found.at(-1).to, line);
-      head = '';
-    } else if (depth === 0) {
-      if (head.trim() === '' && c.trim() !== '') start = line;
-      head = c === ';' ? '' : head + c;
-    }
+      head = -1;
+    } else if (depth === 0 && c === ';') head = -1;
+    else if (depth === 0 && head < 0 && c.trim() !== '') [start, head] = [line, at];
   }
   return found;
 }
@@ -133,7 +132,7 @@ export function coloursOf(text) {
 export function globalsOf(text) {
   let depth = 0, address = 0x10000000;
   const outside = [...codeOf(text)].filter(c => (c === '}' ? depth-- : c === '{' ? depth++ : depth) === 0 && c !== '}').join('');
-  return [...outside.matchAll(/\b(int|unsigned|char)\s+(\w+)\s*(?:\[\s*(\w+?)[uU]?\s*\]|=[^;]*)?\s*;/g)].map(([, type, name, count]) => {
+  return [...outside.matchAll(/\b(int|unsigned|char)\s+(\w+)\s*(?:(?:\[\s*(\w+?)[uU]?\s*\]|=[^;]*)\s*)?;/g)].map(([, type, name, count]) => {
     const found = { name, address, count: count === undefined ? null : Number(count), size: type === 'char' ? 1 : 4 };
     address += 4 * Math.ceil(((found.count ?? 1) * found.size) / 4);
     return found;
