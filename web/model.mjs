@@ -128,12 +128,15 @@ export function coloursOf(text) {
   return lines;
 }
 
+// The length of an array, which may be octal.
+const lengthOf = text => (/^0[0-7]/.test(text) ? parseInt(text, 8) : Number(text));
+
 // The globals of a C text, with their addresses and places: one word each, or as many as an array has; four bytes share one.
 export function globalsOf(text) {
   let depth = 0, address = 0x10000000;
   const outside = [...codeOf(text)].filter(c => (c === '}' ? depth-- : c === '{' ? depth++ : depth) === 0 && c !== '}').join('');
   return [...outside.matchAll(/\b(int|unsigned|char)\s+(\w+)\s*(?:(?:\[\s*(\w+?)[uU]?\s*\]|=[^;]*)\s*)?;/g)].map(([, type, name, count]) => {
-    const found = { name, address, count: count === undefined ? null : Number(count), size: type === 'char' ? 1 : 4 };
+    const found = { name, address, count: count === undefined ? null : lengthOf(count), size: type === 'char' ? 1 : 4 };
     address += 4 * Math.ceil(((found.count ?? 1) * found.size) / 4);
     return found;
   });
