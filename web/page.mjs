@@ -937,10 +937,10 @@ function stateOf() {
 
 const hashOf = state => '#' + Object.entries(state).map(([name, value]) => `${name}=${encodeURIComponent(value)}`).join('&');
 
-// The state of an address; an old one has a text alone.
+// The state of an address; an old one has a text alone. What no encoding has stands for itself, as in one that was typed.
 function stateOfAddress() {
   const hash = location.hash.slice(1);
-  const part = text => attempt(() => decodeURIComponent(text), '');
+  const part = text => text.replace(/(%[0-9a-f]{2})+/gi, found => attempt(() => decodeURIComponent(found), found));
   return /^[a-z]=/.test(hash) ? Object.fromEntries(hash.split('&').map(it => [it[0], part(it.slice(2))])) : { c: part(hash) };
 }
 
