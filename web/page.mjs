@@ -273,7 +273,7 @@ function showProgram({ interp, build, run, list, orders }, isPlain, time) {
   showRuns(interp, run);
   say('state', `${build.text.trim().split(' ').slice(0, 4).join(' ')} · ${time.toFixed(0)} ms`);
   showFunctions();
-  goTo(0);
+  goTo(0, { isFollowed: false });
 }
 
 // What `mcc show` prints of a stage, of a function or of all, asked for once; again where it was stopped.
@@ -709,14 +709,15 @@ function listenToOrder() {
 }
 
 // ---- the machine
-async function goTo(from, { most = 0, stop = 0 } = {}) {
+// The block of the next word is chosen, unless the machine only starts.
+async function goTo(from, { most = 0, stop = 0, isFollowed = true } = {}) {
   if (!page.image) return;
   const { image } = page;
   const address = page.touched ?? 0x10000000;
   const view = await client.ask('machine', { image, from, most, stop, address }).catch(() => null);
   if (image !== page.image || !view || view.status !== 0) return;
   Object.assign(page, { before: page.view && view.words === page.view.words + 1 ? page.view : null, view, cursor: null });
-  if (!$('steps').hidden) chooseAt(view.pc);
+  if (isFollowed && !$('steps').hidden) chooseAt(view.pc);
   showMachine();
 }
 
@@ -1064,7 +1065,7 @@ async function stop() {
   judge();
   showParts();
   showStage();
-  if (!page.view) goTo(0);
+  if (!page.view) goTo(0, { isFollowed: false });
 }
 
 async function main() {
