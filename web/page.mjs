@@ -7,7 +7,7 @@ import { chooseStart, differences, parseStart, readFirst, runBlock, runOrder } f
 
 const $ = id => document.getElementById(id);
 const [SHORT_RUN, LONG_RUN] = [1_000_000, 1_000_000_000_000];
-const [LINES, SHOWN, DRAWN, SHORT_TEXT] = [400, 100_000, 300, 200_000];
+const [LINES, SHOWN, DRAWN, SHORT_TEXT, LONG_LINK] = [400, 100_000, 300, 200_000, 2_000_000];
 const NO_MEMORY64 = 'This browser lacks WebAssembly with 64-bit memories. Chromium or Chrome from 133 on has it, and Firefox from 134 on.';
 
 const element = (tag, text, ...classes) => {
@@ -987,8 +987,11 @@ function showGoal() {
   Object.assign($('goal'), { className: isReached ? 'same' : '', textContent: `Goal: ${where}at most ${goal.words} words and same.${isOwn ? ' ' + now : ''}` });
 }
 
+// A browser opens no address of 2 MiB.
 async function copyLink() {
-  history.replaceState(null, '', hashOf(stateOf()));
+  const hash = hashOf(stateOf());
+  if (hash.length > LONG_LINK) return say('state', 'too long for a link');
+  history.replaceState(null, '', hash);
   keep();
   const isCopied = await navigator.clipboard?.writeText(location.href).then(() => true, () => false);
   say('state', isCopied ? 'link copied' : 'the address has it now');
