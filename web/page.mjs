@@ -621,7 +621,10 @@ const CHANGES = {
   },
   'to-slot': ({ slot }, at) => (slot === null || typeof at !== 'number' ? null : [move(page.order, at, 'slot'), 'slot']),
   'add-nop': ({ insts }, at) => [addNop(page.order, insts[at] ? at : insts.length), insts[at] ? at : insts.length],
-  remove: ({ insts }, at) => (insts[at] === undefined ? null : [withLine(page.order, at, ''), Math.min(at, insts.length - 2)]),
+  remove: ({ insts, slot }, at) => {
+    if (at === 'slot') return slot === 'nop' ? null : [withLine(page.order, 'slot', ''), 'slot'];
+    return insts[at] === undefined ? null : [withLine(page.order, at, ''), Math.min(at, insts.length - 2)];
+  },
   'to-plain': () => [plainOrder(page.chosen.block), 0],
   'to-build': () => [page.chosen.order, 0],
 };
