@@ -638,10 +638,15 @@ function apply(name) {
   if (changed) change(...changed);
 }
 
+// A letter is the same key with Caps Lock.
+const keyName = ({ key }) => (key.length === 1 ? key.toLowerCase() : key);
+
 function orderKey(event) {
+  const isControl = event.ctrlKey || event.metaKey;
+  if (isControl && event.shiftKey) return;
   const name = event.altKey
     ? { ArrowUp: 'up', ArrowDown: 'down' }[event.key]
-    : event.ctrlKey || event.metaKey ? { z: 'undo' }[event.key] : KEYS[event.key];
+    : isControl ? { z: 'undo' }[keyName(event)] : KEYS[keyName(event)];
   const by = event.altKey ? undefined : { ArrowUp: -1, ArrowDown: 1 }[event.key];
   if (!name && !by) return;
   event.preventDefault();
@@ -871,7 +876,7 @@ function listenToMachine() {
 
 function machineKey(event) {
   if (event.target.closest('button, select, input') || event.altKey || event.ctrlKey || event.metaKey) return;
-  const name = { ArrowRight: 'step', ' ': 'step', ArrowLeft: 'back', Home: 'reset', r: 'run', p: 'play' }[event.key];
+  const name = { ArrowRight: 'step', ' ': 'step', ArrowLeft: 'back', Home: 'reset', r: 'run', p: 'play' }[keyName(event)];
   const by = event.target === $('listing') ? { ArrowUp: -4, ArrowDown: 4 }[event.key] : undefined;
   if (!name && !by && event.key !== 'Enter') return;
   event.preventDefault();
