@@ -738,13 +738,16 @@ function step() {
   return goTo(view.words + 1);
 }
 
-// Steps at a speed, up to the end or the breakpoint.
+// Steps at a speed, up to the end or the breakpoint; until it is pressed again.
+let plays = 0;
 async function play() {
+  const mine = ++plays;
   page.isPlaying = !page.isPlaying;
   say('play', page.isPlaying ? 'Pause' : 'Play');
   while (page.isPlaying) {
     await new Promise(resolve => setTimeout(resolve, 1000 / Number($('speed').value)));
-    if (page.isPlaying) await step();
+    if (mine === plays && page.isPlaying) await step();
+    if (mine !== plays) return;
     page.isPlaying &&= page.view?.next.status === 4 && page.view.pc !== page.breakpoint;
   }
   say('play', 'Play');
