@@ -21,6 +21,8 @@ const attempt = (work, other = null) => {
   try { return work(); } catch { return other; }
 };
 const cut = text => (text.length > SHOWN ? text.slice(0, SHOWN) + '\n.. and more' : text);
+// A long output, with the line that tells its end.
+const cutOutput = text => (text.length > SHOWN ? `${cut(text)} ..\n${text.slice(-200).trimEnd().split('\n').at(-1)}\n` : text);
 
 // ---- the worker
 class Client {
@@ -203,7 +205,7 @@ function showRuns(interp, run) {
   const reason = name ? `Wrong in ${name}${line ? `, line ${line}` : ''}: ${words.trim().replace(/\nhint: (.*)/, ' ($1)')}. ` : '';
   const agree = !run ? '' : interp.status === 3 ? 'C gives the text no meaning from there on, so nothing is promised of the machine.'
     : isMore ? 'Not at the end after these steps.' : isOne ? 'Both print the same.' : 'They differ: this must not be.';
-  const texts = { interp: cut(interp.text), machine: cut(run?.text ?? ''), reason, agree };
+  const texts = { interp: cutOutput(interp.text), machine: cutOutput(run?.text ?? ''), reason, agree };
   texts.whose = run && isOne ? 'Output of interpreter and machine' : 'Interpreter';
   for (const [id, text] of Object.entries(texts)) say(id, text);
   showGutter();
