@@ -351,7 +351,7 @@ function showGraph() {
   const top = k => NODE.pad + layer[k] * NODE.down;
   const right = NODE.pad + NODE.width + (Math.max(...rank) - least) * NODE.across;
   const width = right + 8 + 10 * back.length;
-  const height = NODE.pad * 2 + NODE.height + Math.max(...layer) * NODE.down;
+  const height = NODE.pad * 2 + NODE.height + Math.max(...layer) * NODE.down + (back.length ? 8 : 0);
   $('graph').setAttribute('viewBox', `0 0 ${width} ${height}`);
   const scale = parseFloat(getComputedStyle($('rtl')).fontSize) / 13;
   Object.assign($('graph').style, { width: width * scale + 'px', height: height * scale + 'px' });
