@@ -440,6 +440,7 @@ function chooseBlock(block) {
   showParts();
   judge();
   tieGoal();
+  keep();
 }
 
 // The block of a word of the image.
@@ -917,12 +918,19 @@ function typed() {
   typed.later = setTimeout(refresh, 120);
 }
 
-// The text outlives a reload, together with the link from which it came.
-const keep = () => attempt(() => sessionStorage.setItem('mcc', JSON.stringify({ hash: location.hash, state: stateOf() })));
+// The text outlives a reload, together with the link from which it came; and so do one's orders, and how the page looks.
+function keep() {
+  const { theme } = document.documentElement.dataset;
+  const isPresent = document.documentElement.classList.contains('present');
+  const all = { hash: location.hash, state: stateOf(), mine: [...page.mine], theme, isPresent };
+  attempt(() => sessionStorage.setItem('mcc', JSON.stringify(all)));
+}
 
-function kept() {
-  const { hash, state } = attempt(() => JSON.parse(sessionStorage.getItem('mcc'))) ?? {};
-  return hash === location.hash ? state : null;
+const kept = () => attempt(() => JSON.parse(sessionStorage.getItem('mcc'))) ?? {};
+
+function restoreLooks({ theme, isPresent }) {
+  setTheme(theme ?? (matchMedia('(prefers-color-scheme: dark)').matches ? 'dark' : 'light'));
+  if (isPresent) setPresent();
 }
 
 function listExamples(texts) {
@@ -1085,9 +1093,16 @@ async function stop() {
 }
 
 async function main() {
-  setTheme(matchMedia('(prefers-color-scheme: dark)').matches ? 'dark' : 'light');
-  $('theme').onclick = () => setTheme(document.documentElement.dataset.theme === 'dark' ? 'light' : 'dark');
-  $('present').onclick = setPresent;
+  const last = kept();
+  restoreLooks(last);
+  $('theme').onclick = () => {
+    setTheme(document.documentElement.dataset.theme === 'dark' ? 'light' : 'dark');
+    keep();
+  };
+  $('present').onclick = () => {
+    setPresent();
+    keep();
+  };
   onresize = () => { seeNode(); showListing(); };
   listenToTabs();
   listenToOrder();
@@ -1122,7 +1137,9 @@ async function main() {
     return say('fault', `${NO_MEMORY64} (${error.message})`);
   }
   document.documentElement.dataset.ready = (performance.now() - started).toFixed(0);
-  const state = kept() ?? stateOfAddress();
+  const isSame = last.hash === location.hash;
+  page.mine = new Map(isSame ? last.mine : []);
+  const state = isSame ? last.state : stateOfAddress();
   openState({ ...state, c: state.c || texts['squares.c'] });
 }
 
