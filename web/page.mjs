@@ -1104,6 +1104,8 @@ async function main() {
     keep();
   };
   onresize = () => { seeNode(); showListing(); };
+  onbeforeprint = () => say('paper', page.text);
+  onafterprint = () => say('paper', '');
   listenToTabs();
   listenToOrder();
   listenToMachine();
