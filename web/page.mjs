@@ -169,6 +169,7 @@ async function refresh() {
   page.isBusy = true;
   do {
     page.isStale = false;
+    $('again').hidden = true;
     const { text } = page;
     page.tried = text;
     const plain = $('plain').checked;
@@ -185,6 +186,7 @@ async function refresh() {
       if (text === page.text) {
         showRuns({ status: 1, text: error.message }, null);
         setStale('The text has no answer yet.');
+        $('again').hidden = false;
       }
     }
     clearTimeout(late);
@@ -1123,6 +1125,7 @@ async function main() {
   $('link').onclick = copyLink;
   $('run-on').onclick = runOn;
   $('stop').onclick = stop;
+  $('again').onclick = refresh;
   onhashchange = () => openState(stateOfAddress());
   $('goal-words').oninput = () => {
     setGoal($('goal-words').value, page.chosen?.number ?? null);
