@@ -113,7 +113,7 @@ function drawText(first, count) {
   for (let k = first - 1; k < first - 1 + count; k++) {
     const line = lines[k];
     const start = told?.line === k + 1 ? told.column - 1 : -1;
-    const end = start < 0 ? -1 : start + Math.max(1, /^(\w+|[-+*\/%&|^<>=!]+|.)/.exec(line.slice(start))?.[0].length ?? 1);
+    const end = start < 0 ? -1 : start + Math.max(1, /^(\w+|[-+*\/%&|^<>=!]+|.)/u.exec(line.slice(start))?.[0].length ?? 1);
     const spans = start < 0 ? colours?.[k] ?? [] : [[start, end, 'bad']];
     spans.forEach(([from, to, kind], n) => {
       parts.push(line.slice(spans[n - 1]?.[1] ?? 0, from), element(kind === 'bad' ? 'mark' : 'span', line.slice(from, to) || ' ', kind));
