@@ -4,7 +4,7 @@ import path from 'node:path';
 import { pathToFileURL } from 'node:url';
 import { Browser } from './browser.mjs';
 import { Firefox } from './firefox.mjs';
-import { parsePair } from '../model.mjs';
+import { functionsOf, globalsOf, parsePair } from '../model.mjs';
 import { chooseStart, differences, parseStart, runBlock, runOrder } from '../runs.mjs';
 
 const [, , name, file, pictures] = process.argv;
@@ -271,10 +271,27 @@ async function links(page, browser) {
     && ${text('order')} === ${JSON.stringify(order)} && ${text('goal')}.startsWith('Goal: at most 9 words')`), hash);
   await linked.value(click('to-build'));
   judge('the page judges the goal', await linked.until(`${text('goal')}.endsWith('Reached!')`), await linked.value(text('goal')));
+  await linked.value(`document.querySelector('#graph .node:not([data-block="6"])').dispatchEvent(new Event('click'))`);
+  judge('at its own block', await linked.until(`${text('goal')} === 'Goal: of block 6, at most 9 words and same.'`), await linked.value(text('goal')));
+  await linked.value(`document.querySelector('#graph [data-block="6"]').dispatchEvent(new Event('click'))`);
+  await linked.until(`${text('goal')}.endsWith('Reached!')`);
+  const sourceNow = await linked.value(`document.getElementById('source').value`);
+  await linked.value(typed(sourceNow.replace('{', '{ i++;')));
+  judge('and not under a fault', await linked.until(`${shown('fault')} && !${shown('goal')}`));
+  await linked.value(typed(sourceNow));
+  await linked.until(`${text('goal')}.endsWith('Reached!')`);
   await linked.reload();
   judge('a reload keeps all of it', await linked.until(`${text('block-title')}.startsWith('Block 6') && ${text('goal')}.endsWith('Reached!')`));
   const stages = await browser.open(`${address}#c=${encodeURIComponent('int main(void) {\n    out(42);\n    return 0;\n}\n')}&v=stages`);
   judge('a link carries its view', await stages.until(`document.getElementById('stage-text').checkVisibility() && ${text('stage-text')}.startsWith('function main')`));
+  const steps = await browser.open(`${address}#c=${encodeURIComponent(sourceNow)}&f=main&b=6&v=steps`);
+  judge('a link to the machine keeps its block', await steps.until(`${text('count')}.startsWith('0 words') && ${text('block-title')}.startsWith('Block 6,')`), await steps.value(text('block-title')));
+  const raw = await browser.open(`${address}#c=int main(void) { out(7%3); return 0; }`);
+  judge('a link that isn\'t encoded opens', await raw.until(`${text('interp')}.startsWith('1\\ndone 0')`), await raw.value(text('interp')));
+  await raw.value(typed('int main(void) {\n    out(8);\n    return 0;\n}\n' + ' '.repeat(700_000)));
+  await raw.until(`${text('interp')}.startsWith('8\\ndone 0')`);
+  await raw.value(click('link'));
+  judge('a text that is too long for a link', await raw.until(`${text('state')} === 'too long for a link' && location.hash.length < 100`), await raw.value(text('state')));
   const lesson = fs.readFileSync(new URL('../../docs/TEACHING.md', import.meta.url), 'utf8');
   const exercises = [...lesson.matchAll(/mcc\.html(#[^)\s]*)/g)].map(([, found]) => found);
   judge('six exercises of the lesson', exercises.length === 6, exercises.length);
@@ -297,6 +314,106 @@ function starts() {
   const early = parsePair('block\nlw $8,0($29)\naddu $9,$8,$8\nreturn\norder\nlw $8,0($29)\naddu $9,$8,$8\nreturn\nslot nop\n');
   judge('an early word is stuck', runOrder(early.order, chooseStart(early.block, early.order, '')).rows.at(-1).isStuck);
   judge('no start, no table', parseStart('no start that was tried tells them apart: the terms may tell too little') === null);
+}
+
+// The parts of a C text where there is much that isn't code, within seconds.
+function parts() {
+  const began = Date.now();
+  const much = '/* nothing of this */\n   '.repeat(42_000);
+  const named = functionsOf(`int a;\n${much}int b[3];\n${much}int main(void) {\n}\n${much}`).map(({ name, from, to }) => [name, from, to]);
+  judge('a function behind 1 MiB of comments', JSON.stringify(named) === '[["main",84003,84004]]', JSON.stringify(named));
+  judge('and one with them in its head', functionsOf(`int${much}f${much}(int n)${much}{ }`)[0]?.name === 'f');
+  const globals = globalsOf(`int a${much}[010]; ${much}char b${much}; int c${much}(void) { int d; }`).map(g => [g.name, g.address - 0x10000000, g.count]);
+  judge('globals among them, with an octal length', JSON.stringify(globals) === '[["a",0,8],["b",32,null]]', JSON.stringify(globals));
+  judge('within 10 seconds', Date.now() - began < 10_000, Date.now() - began);
+}
+
+const BUSY = 'int a[4]; int main(void) { int i; i = 3; a[i] = 7; out(a[i]+1); while (1) { a[1] = a[1] ^ 1; } return 0; }';
+const shown = id => `document.getElementById('${id}').checkVisibility()`;
+
+// While the worker is busy, nothing stays that was said of another order or of another text.
+async function waits(page) {
+  await page.value(typed(BUSY));
+  judge('a text that goes on', await page.until(`${shown('run-on')} && ${text('verdict')} === 'same'`));
+  await page.value(click('run-on'));
+  await page.value(`document.querySelector('#order li').click()`);
+  for (let k = 0; k < 3; k++) await page.value(click('remove'));
+  judge('no verdict of another order while it runs', await page.until(`${text('verdict')} === 'judging ..' && ${text('why')} === ''`), await page.value(text('verdict')));
+  await page.value(`document.getElementById('whole').checked = false, document.getElementById('stage').value = 'rtl'`);
+  await page.value(click('tab-stages'));
+  await page.value(click('stop'));
+  judge('the verdict comes after Stop', await page.until(`/^(differs|unclean)/.test(${text('verdict')})`), await page.value(text('verdict')));
+  judge('and so does a stage', await page.until(`${text('stage-text')}.startsWith('function main')`), await page.value(text('stage-text')));
+  await page.value(click('tab-orders'));
+  await page.value(click('to-build'));
+
+  await page.value(typed(`int a; int main(void) { while (1) { a = (a+1)*3%7${'+a*3%7'.repeat(150)}&7; } }`));
+  judge('a slow text stands beside no other answer', await page.until(`${text('state')} === 'working ..' && ${text('interp')} === '' && ${shown('stale')}
+    && document.getElementById('orders').inert`), await page.value(text('interp')));
+  await page.value(click('stop'));
+  judge('a build that is stopped can run again', await page.until(shown('again')));
+  await page.value(click('again'));
+  judge('and does', await page.until(`!${shown('again')} && ${shown('stop')}`));
+  await page.value(click('stop'));
+  await page.until(shown('again'));
+}
+
+// What is on the right is of the text on the left, or takes no change.
+async function agrees(page) {
+  const source = `document.getElementById('source').value`;
+  await page.value(choose('squares.c'));
+  await page.until(`${text('interp')}.includes('16\\ndone 0') && ${text('block-title')}.startsWith('Block 2,') && ${text('verdict')} === 'same'`);
+  await page.value(`document.querySelector('#order li').focus()`);
+  await page.key('ArrowDown', { alt: true });
+  await page.until(`${text('verdict')} === 'differs mem'`);
+  await page.value(click('as-text'));
+  await page.until(`${text('block-title')} === 'A block of a check text' && ${text('verdict')} === 'differs mem'`);
+  judge('a check text has no view of the program', await page.value(`document.getElementById('tab-steps').disabled && document.getElementById('tab-stages').disabled`));
+  const right = (await page.value(source)).replace(/order\n(.*\n)(.*\n)/, 'order\n$2$1');
+  await page.value(typed(right));
+  judge('a check text is judged by its own order', await page.until(`${text('verdict')} === 'same' && ${text('state')} === 'same'`), await page.value(text('order')));
+  await page.value(`document.querySelector('#order li').focus()`);
+  await page.key('ArrowDown', { alt: true });
+  judge('its order changes on the right', await page.until(`${text('verdict')} === 'differs mem' && ${text('state')} === 'differs mem'`), await page.value(text('state')));
+  judge('and keeps the focus', await page.value(`document.activeElement.dataset.place === '1'`));
+
+  const fault = 'int main(void) {\n    int i;\n    i++;\n    return 0;\n}\n';
+  await page.value(typed(fault));
+  judge('a fault dims the right side', await page.until(`${shown('stale')} && ${shown('fault')}`));
+  for (const name of ['down', 'add-nop', 'undo', 'to-plain', 'as-text']) await page.value(click(name));
+  judge('which takes no change', (await page.value(source)) === fault && (await page.value(shown('fault'))), await page.value(source));
+  judge('and no key', !(await page.value(`(document.querySelector('#order li').focus(), document.getElementById('order').contains(document.activeElement))`)));
+
+  // a line that is edited
+  await page.value(typed('int main(void) {\n    out(5);\n    return 0;\n}\n'));
+  await page.until(`${text('interp')}.startsWith('5\\ndone 0') && ${text('verdict')} === 'same'`);
+  judge('a program has its views', !(await page.value(`document.getElementById('tab-steps').disabled`)));
+  await page.value(`document.querySelector('#order li').click()`);
+  await page.value(click('edit'));
+  await page.value(`document.querySelector('#order input').value = 'addu $9,$9,$9'`);
+  await page.value(typed('int main(void) {\n    out(5);\n    return 0;\n}\n\n'));
+  judge('outlives an answer', await page.until(`!document.querySelector('#order input') && document.querySelector('#order li').textContent === 'addu $9,$9,$9'`, 5));
+  await page.value(click('to-build'));
+  await page.value(`document.querySelector('#order li').click()`);
+  await page.value(click('edit'));
+  await page.value(`document.getElementById('source').focus()`);
+  await page.until(`!document.querySelector('#order input') && ${text('verdict')} === 'same'`);
+  judge('and a click away keeps the focus', await page.value(`document.activeElement.id === 'source'`));
+
+  // the slot, and capital letters
+  await page.value(typed('int a[4];\nint main(void) {\n    a[1] = a[0];\n    a[2] = a[3];\n    return 0;\n}\n'));
+  await page.until(`${text('order')}.includes('slot ') && !${text('order')}.includes('slot nop') && ${text('verdict')} === 'same'`);
+  await page.value(`document.querySelector('#order li.slot').click()`);
+  await page.key('Delete');
+  judge('Delete in the slot leaves a Nop', await page.until(`document.querySelector('#order li.slot').textContent === 'slot nop'`));
+  await page.value(`document.querySelector('#order li').click()`);
+  await page.key('N');
+  judge('a capital letter is its key', await page.until(`document.querySelector('#order li').textContent === 'nop'`));
+  await page.value(click('theme'));
+  const theme = await page.value('document.documentElement.dataset.theme');
+  const blocks = await page.value(`[...document.querySelectorAll('#graph .node')].length`);
+  await page.reload();
+  judge('a reload keeps order and theme', await page.until(`document.querySelector('#order li')?.textContent === 'nop' && document.documentElement.dataset.theme === '${theme}'`), blocks);
 }
 
 // An edit while a text runs, and Stop; a reload; an example over a text, and the way back.
@@ -417,6 +534,9 @@ async function main() {
   judge('the page works on', await page.until(`${text('interp')}.startsWith('5\\ndone 0')`));
 
   starts();
+  parts();
+  await waits(page);
+  await agrees(page);
   await ownOrders(page);
   await zooms(page);
   await machine(page);
