@@ -50,16 +50,20 @@ export function pairText(block, order) {
 
 export const orderWords = order => order.insts.length + exitWords(order.exit);
 
-// The blocks of a build, each with its order, or its plain one, and the address of its first word.
+// A block without Nops, as `mcc show` prints it.
+export const bare = block => ({ ...block, insts: block.insts.filter(inst => inst !== 'nop') });
+
+// The blocks of a build, each with its order, its plain one, and the address of its first word. Only the plain one has the block's Nops.
 export function parseOrders(text, isPlain) {
   let address = 0x00400000;
   return text.split(/^# /m).slice(1).map(part => {
     const end = part.indexOf('\n');
     const [number, owner] = part.slice(0, end).split(' ').map(Number);
     const block = { number, owner, address, ...parsePair(part.slice(end + 1)) };
-    if (isPlain) block.order = plainOrder(block.block);
+    block.plain = plainOrder(block.block);
+    if (isPlain) block.order = block.plain;
     address += 4 * orderWords(block.order);
-    return block;
+    return { ...block, block: bare(block.block) };
   });
 }
 

@@ -1,6 +1,6 @@
 // The page: what is typed goes to the worker, and what it answers is shown.
 import {
-  NAMES, RULES, addNop, blockAt, blockOf, codeLines, coloursOf, deed, exitLines, functionsOf, globalsOf, graphOf, groupBlocks, hex, marked, move,
+  NAMES, RULES, addNop, bare, blockAt, blockOf, codeLines, coloursOf, deed, exitLines, functionsOf, globalsOf, graphOf, groupBlocks, hex, marked, move,
   nameAt, orderWords, pairText, parseOrders, parsePair, parseTold, plainOrder, reached, withLine,
 } from './model.mjs';
 import { chooseStart, differences, parseStart, readFirst, runBlock, runOrder } from './runs.mjs';
@@ -244,7 +244,7 @@ async function showPair(text) {
   if (isThere || !pair) return;
   page.built = text;
   setOwn(true);
-  chooseBlock({ number: null, owner: null, address: 0, ...pair });
+  chooseBlock({ number: null, owner: null, address: 0, plain: plainOrder(pair.block), ...pair });
 }
 
 // A check text has neither a graph nor RTL, and nothing runs.
@@ -425,7 +425,7 @@ function graphKey(event) {
 
 // ---- a block and its order
 // One's order of a block is kept while one looks at others. A check text has its order itself.
-const keyOf = ({ block }) => [...block.insts, block.exit].join('\n');
+const keyOf = ({ block }) => [...bare(block).insts, block.exit].join('\n');
 
 function chooseBlock(block) {
   keepLine();
@@ -471,7 +471,7 @@ function showOrder() {
     item.draggable = place !== 'exit';
     return item;
   }));
-  say('verdict-words', `${orderWords(order)} words; the plain order takes ${orderWords(plainOrder(page.chosen.block))}.`);
+  say('verdict-words', `${orderWords(order)} words; the plain order takes ${orderWords(page.chosen.plain)}.`);
 }
 
 const focusOrder = () => $('order').querySelector('[tabindex="0"]')?.focus();
@@ -630,7 +630,7 @@ const CHANGES = {
     if (at === 'slot') return slot === 'nop' ? null : [withLine(page.order, 'slot', ''), 'slot'];
     return insts[at] === undefined ? null : [withLine(page.order, at, ''), Math.min(at, insts.length - 2)];
   },
-  'to-plain': () => [plainOrder(page.chosen.block), 0],
+  'to-plain': () => [page.chosen.plain, 0],
   'to-build': () => [page.chosen.order, 0],
 };
 const KEYS = { s: 'to-slot', n: 'add-nop', Delete: 'remove', Backspace: 'remove', Enter: 'edit', F2: 'edit' };
