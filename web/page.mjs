@@ -73,7 +73,7 @@ const page = {
   text: '', built: '', lines: [], marks: {}, told: null, wrong: null, image: null, blocks: [], groups: [], group: null,
   chosen: null, order: null, at: 0, said: '', stages: new Map(), tried: null, isRunning: false, isOther: false,
   mine: new Map(), past: [], badLine: null, globals: [], isPlaying: false, goal: null, wanted: {}, colours: null,
-  listing: [], view: null, before: null, breakpoint: null, cursor: null, touched: null, isBusy: false, isStale: false, isDimmed: false,
+  listing: [], view: null, before: null, breakpoint: null, cursor: null, touched: null, isBusy: false, isStale: false, isDimmed: false, replaced: null,
 };
 
 // ---- the C text
@@ -123,9 +123,13 @@ function drawText(first, count) {
   $('behind').replaceChildren(...parts);
 }
 
-// Enter keeps the indentation, and adds to it after a brace.
+// Undo brings back a long text, which the browser's own doesn't know. Enter keeps the indentation, and adds to it after a brace.
 function sourceKey(event) {
   const { value, selectionStart } = event.target;
+  if ((event.ctrlKey || event.metaKey) && !event.shiftKey && keyName(event) === 'z' && value === page.replaced?.by) {
+    event.preventDefault();
+    return putText(page.replaced.text);
+  }
   if (event.key !== 'Enter' || event.isComposing || event.ctrlKey || event.altKey || value.length > SHORT_TEXT) return;
   const line = value.slice(value.lastIndexOf('\n', selectionStart - 1) + 1, selectionStart);
   event.preventDefault();
@@ -894,15 +898,18 @@ function machineKey(event) {
 }
 
 // ---- examples, links, themes, tabs
-// A text in place of the one that is there, so that the browser's undo brings that back; a long one is put in without.
+// A text in place of the one that is there, so that undo brings that back: the browser's, which is too slow for a long text, or ours.
 function putText(text) {
   const source = $('source');
   const focused = document.activeElement;
   source.focus();
   source.select();
   const isPut = text && text.length <= SHORT_TEXT && source.value.length <= SHORT_TEXT && document.execCommand('insertText', false, text);
-  if (!isPut) source.value = text;
-  if (!isPut) typed();
+  if (!isPut) {
+    page.replaced = { text: source.value, by: text };
+    source.value = text;
+    typed();
+  }
   source.setSelectionRange(0, 0);
   source.scrollTop = 0;
   if (focused === document.body) source.blur();

@@ -290,6 +290,11 @@ async function links(page, browser) {
   judge('a link that isn\'t encoded opens', await raw.until(`${text('interp')}.startsWith('1\\ndone 0')`), await raw.value(text('interp')));
   await raw.value(typed('int main(void) {\n    out(8);\n    return 0;\n}\n' + ' '.repeat(700_000)));
   await raw.until(`${text('interp')}.startsWith('8\\ndone 0')`);
+  await raw.value(choose('squares.c'));
+  await raw.until(`${text('interp')}.includes('16\\ndone 0')`);
+  await raw.value(`document.getElementById('source').focus()`);
+  await raw.value(`document.getElementById('source').dispatchEvent(new KeyboardEvent('keydown', { key: 'z', ctrlKey: true, cancelable: true }))`);
+  judge('undo brings back a long text', await raw.until(`${text('interp')}.startsWith('8\\ndone 0') && document.getElementById('source').value.length > 700_000`));
   await raw.value(click('link'));
   judge('a text that is too long for a link', await raw.until(`${text('state')} === 'too long for a link' && location.hash.length < 100`), await raw.value(text('state')));
   const lesson = fs.readFileSync(new URL('../../docs/TEACHING.md', import.meta.url), 'utf8');
