@@ -956,11 +956,13 @@ function listExamples(texts) {
   };
 }
 
-// What a link carries: the text, the view, the function, the block, one's order of it, and a goal.
+// What a link carries: the text, the view, the function, the block (the one that is to be chosen where no answer came yet), one's order
+// of it, and a goal.
 function stateOf() {
-  const { chosen, group, order, goal, text } = page;
+  const { chosen, group, order, goal, text, wanted } = page;
   const state = { c: text, v: TABS.find(tab => !$(tab).hidden) };
-  if (group && chosen?.number != null) Object.assign(state, { f: group.name, b: chosen.number });
+  if (wanted.name) Object.assign(state, { f: wanted.name, b: wanted.number });
+  else if (group && chosen?.number != null) Object.assign(state, { f: group.name, b: chosen.number });
   if (chosen && order && order !== chosen.order && chosen.number !== null) state.o = pairText(chosen.block, order);
   if (goal) state.g = `at most ${goal.words} words and same` + (goal.number === (chosen?.number ?? null) ? '' : ` in block ${goal.number}`);
   return state;
