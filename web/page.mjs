@@ -1019,11 +1019,27 @@ function showGoal() {
   Object.assign($('goal'), { className: isReached ? 'same' : '', textContent: `Goal: ${where}at most ${goal.words} words and same.${isOwn ? ' ' + now : ''}` });
 }
 
+// Back and Forward lead to what was there when one left; a link that is followed opens as it is. An entry of the browser's history has a
+// number of its own, by which what was left is found.
+const left = new Map();
+let entry = null;
+
+function nameEntry() {
+  if (history.state === null) history.replaceState(Date.now(), '');
+  entry = history.state;
+}
+
+function followAddress() {
+  left.set(entry, stateOf());
+  nameEntry();
+  openState(left.get(entry) ?? stateOfAddress());
+}
+
 // A browser opens no address of 2 MiB.
 async function copyLink() {
   const hash = hashOf(stateOf());
   if (hash.length > LONG_LINK) return say('state', 'too long for a link');
-  history.replaceState(null, '', hash);
+  history.replaceState(history.state, '', hash);
   keep();
   const isCopied = await navigator.clipboard?.writeText(location.href).then(() => true, () => false);
   say('state', isCopied ? 'link copied' : 'the address has it now');
@@ -1135,7 +1151,8 @@ async function main() {
   $('run-on').onclick = runOn;
   $('stop').onclick = stop;
   $('again').onclick = refresh;
-  onhashchange = () => openState(stateOfAddress());
+  nameEntry();
+  onhashchange = followAddress;
   $('goal-words').oninput = () => {
     setGoal($('goal-words').value, page.chosen?.number ?? null);
     tieGoal();

@@ -288,6 +288,14 @@ async function links(page, browser) {
   judge('a link to the machine keeps its block', await steps.until(`${text('count')}.startsWith('0 words') && ${text('block-title')}.startsWith('Block 6,')`), await steps.value(text('block-title')));
   const raw = await browser.open(`${address}#c=int main(void) { out(7%3); return 0; }`);
   judge('a link that isn\'t encoded opens', await raw.until(`${text('interp')}.startsWith('1\\ndone 0')`), await raw.value(text('interp')));
+  await raw.value(typed('int main(void) {\n    out(11);\n    return 0;\n}\n'));
+  await raw.until(`${text('interp')}.startsWith('11\\ndone 0')`);
+  await raw.value(`location.hash = 'c=' + encodeURIComponent('int main(void) {\\n    out(12);\\n    return 0;\\n}\\n')`);
+  judge('another link opens', await raw.until(`${text('interp')}.startsWith('12\\ndone 0')`));
+  await raw.value('history.back()');
+  judge('Back leads to what was left', await raw.until(`${text('interp')}.startsWith('11\\ndone 0')`), await raw.value(text('interp')));
+  await raw.value('history.forward()');
+  judge('and Forward', await raw.until(`${text('interp')}.startsWith('12\\ndone 0')`), await raw.value(text('interp')));
   await raw.value(typed('int main(void) {\n    out(8);\n    return 0;\n}\n' + ' '.repeat(700_000)));
   await raw.until(`${text('interp')}.startsWith('8\\ndone 0')`);
   await raw.value(choose('squares.c'));
@@ -296,7 +304,7 @@ async function links(page, browser) {
   await raw.value(`document.getElementById('source').dispatchEvent(new KeyboardEvent('keydown', { key: 'z', ctrlKey: true, cancelable: true }))`);
   judge('undo brings back a long text', await raw.until(`${text('interp')}.startsWith('8\\ndone 0') && document.getElementById('source').value.length > 700_000`));
   await raw.value(click('link'));
-  judge('a text that is too long for a link', await raw.until(`${text('state')} === 'too long for a link' && location.hash.length < 100`), await raw.value(text('state')));
+  judge('a text that is too long for a link', await raw.until(`${text('state')} === 'too long for a link' && location.hash.length < 200`), await raw.value(text('state')));
   const lesson = fs.readFileSync(new URL('../../docs/TEACHING.md', import.meta.url), 'utf8');
   const exercises = [...lesson.matchAll(/mcc\.html(#[^)\s]*)/g)].map(([, found]) => found);
   judge('six exercises of the lesson', exercises.length === 6, exercises.length);
