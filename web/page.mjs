@@ -1007,12 +1007,12 @@ function tieGoal() {
   showGoal();
 }
 
-// Only the goal's own block is judged by it.
+// Only the goal's own block is judged by it, also as a check text.
 function showGoal() {
   const { goal, chosen, order, said } = page;
   $('goal').hidden = goal === null || goal.key === null || page.isDimmed;
   if ($('goal').hidden || !chosen) return;
-  const isOwn = goal.key === keyOf(chosen) && goal.number === chosen.number;
+  const isOwn = goal.key === keyOf(chosen) && [goal.number, null].includes(chosen.number);
   const isReached = isOwn && said.trim() === 'same' && orderWords(order) <= goal.words;
   const now = isReached ? 'Reached!' : `Now: ${orderWords(order)} words, ${said.split('\n')[0] || (lateVerdict ? 'judging ..' : 'no order')}.`;
   const where = isOwn ? '' : [null, chosen.number].includes(goal.number) ? 'of another block, ' : `of block ${goal.number}, `;
