@@ -1047,7 +1047,7 @@ async function copyLink() {
 
 function setTheme(theme) {
   document.documentElement.dataset.theme = theme;
-  Object.assign($('theme'), { textContent: theme === 'dark' ? 'Light' : 'Dark', ariaPressed: String(theme === 'dark') });
+  $('theme').textContent = theme === 'dark' ? 'Light' : 'Dark';
 }
 
 function setPresent() {
