@@ -26,7 +26,11 @@ const LIST: &[&str] = &["mcc", "list", "x"];
 
 const CANNOT_READ: &str = "fault 60 CannotRead\nx: error: this file can't be read\n";
 
-const CANNOT_WRITE: &str = "fault 61 CannotWrite\ny: error: the image can't be written\n";
+const CANNOT_WRITE: &str = "\
+fault 61 CannotWrite
+y: error: the image can't be written
+hint: it has to be a new file, or one that may be written and isn't the source
+";
 
 const CANNOT_PRINT: &str = "fault 61 CannotWrite\nerror: standard output can't be written\n";
 
