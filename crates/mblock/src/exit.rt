@@ -9,7 +9,7 @@ use mips_isa::{PairTest, Reg, ZeroTest};
 /// How a block is left. A branch goes to `then` where its condition holds, else to `other`.
 #[derive(Clone, Copy, PartialEq, Eq)]
 pub enum Exit {
-    /// To a block of the same function.
+    /// To a block.
     Goto(BlockNumber),
     /// On two registers.
     BranchPair {

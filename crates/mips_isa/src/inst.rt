@@ -1,4 +1,4 @@
-//! Instructions that don't jump (Kane, MIPS RISC Architecture, appendix A).
+//! Instructions (Kane, MIPS RISC Architecture, appendix A).
 use crate::reg::{Amount, JumpTarget, NonzeroReg, Reg};
 use words::{Sign, Width};
 
@@ -152,7 +152,7 @@ pub enum JumpOp {
     JumpAndLink,
 }
 
-/// What goes elsewhere. A branch's offset counts words from the word after the branch; a jump's
+/// A branch, a jump or a system call. A branch's offset counts words from the word after the branch; a jump's
 /// target is the number of a word within its 2^26 words.
 #[derive(Clone, Copy)]
 pub enum Control {

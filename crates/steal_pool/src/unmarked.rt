@@ -3,6 +3,7 @@ ghost use Rattle.std.specs.Prelude.{⊤};
 
 use crate::rule::{Fact, Note};
 
+/// What is noted of a member: nothing.
 pub struct Unmarked;
 
 impl Fact for Unmarked {

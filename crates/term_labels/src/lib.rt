@@ -22,7 +22,7 @@ pub trait Label: Copy {
         ensures value { result ≡ coding.word self }
         ensures range { coding.is_label self ≡ true };
 
-    /// Returns the label that has this word, and None if no label has it.
+    /// Returns the label that has this word. The table asks it of the words of labels alone.
     fn of_word(word: u64) -> Option<Self>
         ensures { result ≡ coding.label_with word };
 

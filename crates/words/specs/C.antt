@@ -32,7 +32,8 @@ abbrev pub negation_of : Sign → ℕ → Option ℕ
 negation_of Signed a = as_int (neg_ℤ (signed a))
 negation_of Unsigned a = Some (subu 0 a)
 
--- by less than the number of bits (a negative count, read as a word, is more), of no negative number, to what an `int` has
+-- by less than the number of bits: a negative count, read as a word, is more. Only an `int` that isn't negative is shifted, and only to
+-- what an `int` has; of an `unsigned` the low 32 bits are kept (C99 6.5.7)
 abbrev pub left_shift_of : Sign → ℕ → ℕ → Option ℕ
 left_shift_of Signed a n = if nat_lt n 32 && nat_lt (a * 2 ^ n) (2 ^ 31) then Some (a * 2 ^ n) else None
 left_shift_of Unsigned a n = if nat_lt n 32 then Some (wrap (a * 2 ^ n)) else None
