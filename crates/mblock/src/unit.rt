@@ -77,12 +77,9 @@ fn branches_within(owner: &[BlockNumber], o: BlockNumber, exit: Exit) -> bool
 fn are_linked(blocks: &[Block]) -> bool
     ensures { IsTrue result ↔ AreLinked blocks.now }
 {
-    for block in blocks {
-        if !goes_below(blocks.len(), block.exit()) {
-            return false;
-        }
-    }
-    true
+    blocks
+        .iter()
+        .all(|block| goes_below(blocks.len(), block.exit()))
 }
 
 /// Reports whether block i is the first of its function, or of the function of the block before it.

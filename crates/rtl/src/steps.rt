@@ -17,11 +17,12 @@ use std::alloc::{AllocError, Global};
 fn first_elements(alloc: Global, global: &RGlobal) -> Result<Vec<u32>, AllocError>
     ensures { IfOk result (λ elements. elements.items ≡ first_values global.now) }
 {
-    let mut elements = Vec::with_capacity(alloc, global.first.len())?;
-    for v in &global.first {
-        elements.push(global.width.kept(constant(*v)))?;
-    }
-    Ok(elements)
+    let width = global.width;
+    global
+        .first
+        .iter()
+        .map(|v| width.kept(constant(*v)))
+        .collect(alloc)
 }
 
 /// Returns the globals before the first step.
