@@ -1,5 +1,5 @@
 //! Types of statements and of declarations of locals (C99 6.8).
-ghost use Rattle.std.specs.Prelude.{◌≡◌, ℕ, List, IfOk, IfErr, Err, false};
+ghost use Rattle.std.specs.Prelude.{◌≡◌, ◌≢◌, ℕ, List, IfOk, IfErr, Err, false};
 ghost use Rattle.c_tree.specs.Shape.{expression_of, maybe_expression_of, maybe_simple_of, maybe_value_tree, statement_of, item_of};
 ghost use Rattle.c_tree.specs.Shape.{items_of};
 ghost use Rattle.c_tree.specs.Tree as Tree;
@@ -83,6 +83,7 @@ fn returned_value(
 pub fn declarator(program: &Program, scopes: &Scopes, name: Identifier) -> Result<(), TypeStop>
     ensures none { IfOk result (λ _. HasNone (FaultyDeclarator program.now.text.items (scopes_of scopes.now) name)) }
     ensures err { IfErr result (StopsAtFirst (FaultyDeclarator program.now.text.items (scopes_of scopes.now) name)) }
+    ensures memory { IfErr result (λ stop. stop ≢ NoMemory) }
 {
     if scopes.declares(program, name) {
         return Err(misuse(TypeFaultKind::Redeclared, name));

@@ -25,6 +25,7 @@ pub fn register_of(local: usize) -> Result<Register, LowerFault>
     ensures is { IfOk result (λ r. r ≡ local) }
     ensures within { IfOk result (λ r. r < MAX_REGISTERS) }
     ensures limit { IfErr result (λ f. f ≡ LowerFault.Limit → MAX_REGISTERS < local + 1) }
+    ensures kind { IfErr result (λ f. f ≡ LowerFault.Limit) }
 {
     if local >= MAX_REGISTERS as usize {
         return Err(LowerFault::Limit);
@@ -37,6 +38,7 @@ pub fn spare_register(free: Register) -> Result<Register, LowerFault>
     ensures is { IfOk result (λ r. r ≡ free) }
     ensures within { IfOk result (λ r. r < MAX_REGISTERS) }
     ensures limit { IfErr result (λ f. f ≡ LowerFault.Limit → MAX_REGISTERS < free + 1) }
+    ensures kind { IfErr result (λ f. f ≡ LowerFault.Limit) }
 {
     register_of(free as usize)
 }
@@ -62,6 +64,7 @@ pub fn place_of(e: &TypedExpression, free: Register) -> Result<Place, LowerFault
     ensures place { IfOk result (λ p. IsPlace (typed_expression_of e.now) free p.register p.free) }
     ensures room { OnOk result (place_registers (typed_expression_of e.now) free ≤ MAX_REGISTERS) }
     ensures limit { IfErr result (λ f. f ≡ LowerFault.Limit → MAX_REGISTERS < place_registers (typed_expression_of e.now) free) }
+    ensures kind { IfErr result (λ f. f ≡ LowerFault.Limit) }
 {
     if let TypedExpression::Local(_, number) = e {
         let register = register_of(*number)?;
@@ -111,9 +114,5 @@ fn put_place(places: &mut Vec<Place>, place: Place) -> Result<(), AllocError>
 pub fn registers_of(alloc: Global, places: &[Place]) -> Result<Vec<Register>, AllocError>
     ensures { IfOk result (λ rs. rs.items ≡ map (λ p. p.register) places.now) }
 {
-    let mut registers = Vec::new(alloc);
-    for place in places {
-        registers.push(place.register)?;
-    }
-    Ok(registers)
+    places.iter().map(|place| place.register).collect(alloc)
 }

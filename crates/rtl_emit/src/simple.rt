@@ -26,6 +26,7 @@ pub(crate) struct Aim {
 pub fn number_of(number: usize) -> Result<u32, LowerFault>
     ensures is { IfOk result (λ r. r ≡ number) }
     ensures limit { IfErr result (λ f. f ≡ LowerFault.Limit → 2 ^ 32 < number + 1) }
+    ensures kind { IfErr result (λ f. f ≡ LowerFault.Limit) }
 {
     if number > u32::MAX as usize {
         return Err(LowerFault::Limit);
