@@ -1,5 +1,6 @@
 -- A program's run in portions: what was written before it, and one step more of a portion.
-use Rattle.std.proofs.Common.{◌≡◌, ℕ, zero, suc, ◌+◌, ◌<◌, ◌++◌, true, false, cond, List, [], ◌∷◌, Option, Some, None, refl, sym, ap, ◌∙◌}
+use Rattle.std.proofs.Common.{◌≡◌, ℕ, zero, suc, ◌+◌, ◌<◌, ◌++◌, true, false, cond, List, [], ◌∷◌, ◌≢◌, Option, Some, None, refl, sym, ap, subst, ◌∙◌, rules}
+use Rattle.std.specs.Prelude.{IfSome}
 use Rattle.std.proofs.Common.{append_assoc, append-nil, length, nat_lt, slice_get}
 use Rattle.runs.specs.Stores.{Places}
 use Rattle.runs.specs.Runs.{Running, Ended, Failed, with_value, outcome}
@@ -111,6 +112,11 @@ output_before p depth n s =
 
 -- ---- a portion, step by step
 
+ends_behind : (r : Reached) → IfSome (end_of r) (λ e. e ≢ More)
+ends_behind Reach.Going = tt
+ends_behind (Reach.Ended w) = λ is. search rules
+ends_behind Reach.Failed = λ is. search rules
+
 behind_step : (m : UnderWay) (n : ℕ) (r : Reached) (end : Option End) → end_of r ≡ end
     → outcome_after r (comes_to m n) (outcome (state_of m)).output ≡ behind_run comes_to end m n
 behind_step m n Reach.Going end e = ap (λ e. behind_run comes_to e m n) e
@@ -127,3 +133,4 @@ one_step asked old m i r end ran lt went program depth e is =
     one_more comes_to More asked old m new end ran lt went refl (λ n.
     by-step step (state_of m) (state_of new) r i.output.items (record { ended = λ w out. refl; failed = λ out. refl }) stepped n
     ∙ behind_step new n r end is)
+    (subst (λ (o : Option End). IfSome o (λ e. e ≢ More)) is (ends_behind r))

@@ -1,5 +1,12 @@
 //! Where a run is wrong: the function that runs, and its statement.
-use crate::interpreter::act;
+ghost use Rattle.std.specs.Prelude.{◌≡◌, ◌↔◌, IfOk, IsSome};
+ghost use Rattle.runs.specs.declared.ran.End.TheVariants.{Wrong};
+ghost use Rattle.runs.specs.Calls.{state_by, reached_by};
+ghost use Rattle.c_types.specs.Shape.{program_of};
+ghost use Rattle.c_typed.specs.Meaning.{source_step, source_run};
+ghost use Rattle.c_run.specs.Interpreter.{frame_of};
+
+use crate::interpreter::{Interpreter, act};
 use crate::pending::Head;
 use crate::steps::start;
 use c_typed::TypedStatement;
@@ -45,45 +52,62 @@ pub fn statements_in(s: &TypedStatement) -> usize {
 /// Keeps the numbers of the functions whose calls are active after a statement; the one that runs is the last.
 fn keep_active(
     active: &mut Vec<usize>,
-    s: &TypedStatement,
+    s: Option<&TypedStatement>,
     waiting: usize,
 ) -> Result<(), AllocError> {
     active.truncate(waiting.saturating_add(1));
     match s {
-        TypedStatement::Call(_, function, _) if active.len() <= waiting => active.push(*function)?,
+        Some(TypedStatement::Call(_, function, _)) if active.len() <= waiting => {
+            active.push(*function)?
+        }
         _ => {}
     }
     Ok(())
 }
 
-/// Finds where so many steps of a program end wrong, with at most `depth` calls active at once, if they do. `Err` only if memory runs out.
-/// No contract says that the place is right; a run doesn't keep it.
+/// Takes one step of the program, and returns the statement that it was at; None at the function's end. `Err` only if memory runs out.
+fn placed_step<'a>(
+    alloc: Global,
+    program: &'a Typed,
+    depth: u32,
+    interpreter: &mut Interpreter<'a>,
+) -> Result<(Reached, Option<&'a TypedStatement>), AllocError>
+    ensures { IfOk result (λ r. source_step (program_of program.now) depth (state_by frame_of interpreter.old)
+        ≡ reached_by frame_of r.0 interpreter.new) }
+{
+    let frame = &mut interpreter.frame;
+    let head = frame.todo.settle(&mut frame.locals)?;
+    let Head::Statement(s) = head else {
+        return Ok((Reached::Failed, None));
+    };
+    let reached = act(alloc, program, depth, interpreter, s)?;
+    Ok((reached, Some(s)))
+}
+
+/// Finds where so many steps of a program end wrong, with at most `depth` calls active at once; None exactly if they don't. `Err` only if
+/// memory runs out. No contract says that the place is right; a run doesn't keep it.
 pub fn wrong_place_of<'a>(
     alloc: Global,
     program: &'a Typed,
     depth: u32,
     steps: u64,
-) -> Result<Option<WrongPlace<'a>>, AllocError> {
+) -> Result<Option<WrongPlace<'a>>, AllocError>
+    ensures wrong { IfOk result (λ place. IsSome place ↔ ((source_run (program_of program.now) depth steps).end ≡ Wrong)) }
+{
     let mut interpreter = start(alloc, program)?;
     let mut active = Vec::new(alloc);
     active.push(program.main())?;
     for _ in 0..steps {
-        let mut place = WrongPlace {
-            function: active.last().copied().unwrap_or(program.main()),
-            statement: None,
-            left: 0,
-        };
-        let frame = &mut interpreter.frame;
-        let head = frame.todo.settle(&mut frame.locals)?;
-        let Head::Statement(s) = head else {
-            return Ok(Some(place));
-        };
-        place.statement = Some(s);
-        match act(alloc, program, depth, &mut interpreter, s)? {
-            Reached::Going => keep_active(&mut active, s, interpreter.waiting.len())?,
+        let function = active.last().copied().unwrap_or(program.main());
+        let (reached, statement) = placed_step(alloc, program, depth, &mut interpreter)?;
+        match reached {
+            Reached::Going => keep_active(&mut active, statement, interpreter.waiting.len())?,
             Reached::Failed => {
-                place.left = interpreter.frame.todo.left();
-                return Ok(Some(place));
+                return Ok(Some(WrongPlace {
+                    function,
+                    statement,
+                    left: interpreter.frame.todo.left(),
+                }));
             }
             Reached::Ended(_) => return Ok(None),
         }

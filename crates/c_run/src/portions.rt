@@ -3,7 +3,7 @@ ghost use Rattle.std.specs.Prelude.{◌≡◌, ◌<◌, IfOk};
 ghost use Rattle.c_types.specs.Shape.{program_of};
 ghost use Rattle.c_typed.specs.Meaning.{source_start};
 ghost use Rattle.runs.specs.Runs.{outcome};
-ghost use Rattle.runs.specs.Portions.{WentOn};
+ghost use Rattle.runs.specs.Portions.{StopsAt, WentOn};
 ghost use Rattle.runs.specs.declared.ran.End.TheVariants.{More};
 ghost use Rattle.c_run.specs.Portions.{OutputGoesBefore, comes_to, emptied, state_of};
 
@@ -13,7 +13,7 @@ use c_types::Typed;
 use runs::{Advance, End};
 use std::alloc::{AllocError, Global};
 
-/// A typed program under way, with at most `depth` calls active at once.
+/// A typed program under way, with at most `depth` calls active at once. `main` is one of them, and runs also at depth 0.
 #[derive(Drop)]
 pub struct UnderWay<'a> {
     pub program: &'a Typed,
@@ -45,6 +45,7 @@ impl<'a> UnderWay<'a> {
     ) -> Result<Advance<End>, AllocError>
         ensures went { IfOk result (λ a. WentOn comes_to More steps self.old self.new a) }
         ensures moved { IfOk result (λ a. 0 < steps → 0 < a.ran) }
+        ensures outputs { IfOk result (λ a. StopsAt comes_to outputs steps self.old self.new a) }
         ensures program { self.new.program ≡ self.old.program }
         ensures depth { self.new.depth ≡ self.old.depth }
     {

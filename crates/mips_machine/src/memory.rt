@@ -173,12 +173,9 @@ fn words_of(alloc: Global, bytes: &[u8]) -> Result<Vec<u32>, AllocError>
     ensures count { IfOk result (λ w. length w.items ≡ (length bytes.now + 3) / 4) }
     ensures words { IfOk result (λ w. (k : ℕ) → k < (length bytes.now + 3) / 4 → slice_index w.items k ≡ word_in bytes.now k) }
 {
-    let count = (bytes.len() + 3) / 4;
-    let mut words = Vec::with_capacity(alloc, count)?;
-    for k in 0..count {
-        words.push(word_in(bytes, k))?;
-    }
-    Ok(words)
+    (0..(bytes.len() + 3) / 4)
+        .map(|k| word_in(bytes, k))
+        .collect(alloc)
 }
 
 /// Returns the memory at the start: these bytes of data, and a stack of zeros.

@@ -1,6 +1,6 @@
 //! A machine's run in portions.
-ghost use Rattle.std.specs.Prelude.{◌≡◌, ◌<◌, IfOk};
-ghost use Rattle.runs.specs.Portions.{WentOn};
+ghost use Rattle.std.specs.Prelude.{◌≡◌, ◌<◌, ◌+◌, ℕ, IfOk, OnErr};
+ghost use Rattle.runs.specs.Portions.{StopsAt, WentOn};
 ghost use Rattle.mips_code.specs.declared.steps.Ending.TheVariants.{More};
 ghost use Rattle.mips_machine.specs.Views.{machine_of};
 ghost use Rattle.mips_machine.specs.Portions.{OutputGoesBefore, comes_to, emptied};
@@ -11,10 +11,13 @@ use runs::Advance;
 use std::alloc::AllocError;
 
 impl<'a> Machine<'a> {
-    /// Goes on for at most so many words, until it holds so many words of output. `Err` only if memory runs out.
+    /// Goes on for at most so many words, until it holds so many words of output. `Err` only if memory runs out: then fewer words than asked
+    /// for ran.
     pub fn go_on(&mut self, words: u64, outputs: usize) -> Result<Advance<Ending>, AllocError>
         ensures went { IfOk result (λ a. WentOn comes_to More words self.old self.new a) }
         ensures moved { IfOk result (λ a. 0 < words → 0 < a.ran) }
+        ensures outputs { IfOk result (λ a. StopsAt comes_to outputs words self.old self.new a) }
+        ensures err { OnErr result ((k : ℕ) × (k < words) × ((n : ℕ) → comes_to self.old (k + n) ≡ comes_to self.new n)) }
         ensures code { self.new.code ≡ self.old.code }
     {
         let mut ran = 0;

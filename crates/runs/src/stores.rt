@@ -1,5 +1,5 @@
 //! What a run keeps: a word for each local or register that is set, and the words of each global.
-ghost use Rattle.std.specs.Prelude.{◌≡◌, ◌<◌, length, Option, OnOk, OnErr, None, Some, if◌then◌else◌};
+ghost use Rattle.std.specs.Prelude.{◌≡◌, ◌<◌, length, Option, OnOk, OnErr, None, Some, if◌then◌else◌, false};
 ghost use Rattle.runs.specs.Stores.{places_with, element_at, arrays_with};
 ghost use Rattle.runs.specs.Kept.{places, arrays};
 
@@ -54,7 +54,8 @@ pub fn element(globals: &[Vec<u32>], global: usize, index: usize) -> Option<u32>
 
 /// Writes a word of a global; false outside, and then all stay as they were.
 pub fn store(globals: &mut [Vec<u32>], global: usize, index: usize, v: u32) -> bool
-    ensures { arrays_with (arrays globals.old) global index v ≡ (if result then Some (arrays globals.new) else None) }
+    ensures stored { arrays_with (arrays globals.old) global index v ≡ (if result then Some (arrays globals.new) else None) }
+    ensures outside { result ≡ false → globals.new ≡ globals.old }
 {
     if global < globals.len() {
         let elements = &mut globals[global];
