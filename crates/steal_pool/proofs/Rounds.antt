@@ -116,10 +116,10 @@ module _ {K : Type 0} where
 
   -- what a call that gave r tells of a member that goes round these deques
   pub told : (E : View → Type 0) (r : Option ℕ) (n : ℕ) (deques : List (RowsId × Global)) (w : ℕ) (old new : Member K) → deques_of new ≡ deques_of old
-      → MatchOption r ((views_of new ≡ views_of old) × All E (views_of old)) (λ i. TookOne i (views_of old) (views_of new)) → GoesRound n deques w old
+      → MatchOption r ((views_of new ≡ views_of old) × All E (views_of old)) (λ i. TookOne E i (views_of old) (views_of new)) → GoesRound n deques w old
       → GoesRound n deques w new × MatchOption r (FoundEmpty E n deques w old) (λ _. ⊤)
   told E None n deques w old new same taken round =
       (round_same n deques w old new same (subst (SharesOf n deques w) (sym taken.0) round.shares) round, round_empty E n deques w old round taken.1)
-  told E (Some i) n deques w old new same (k, v, at, is) round =
+  told E (Some i) n deques w old new same (k, v, at, is, passed) round =
       let P : ℕ → List ℕ → Type 0 = λ j put. IsShare ((w + j) % length deques) (length deques) n put in
       (round_same n deques w old new same (subst (SharesOf n deques w) (sym is) (put_kept P (views_of old) k v (after_taking v (i ∷ [])) at refl round.shares)) round, tt)

@@ -1,9 +1,9 @@
 -- A list in which one element changes, as it is seen through a function.
-use Rattle.std.proofs.Common.{◌≡◌, ℕ, suc, ◌<◌, List, ◌∷◌, All, map, set, get_or, length, Option, Some, None, slice_get, MatchOption, sym, refl, ap, ◌∙◌}
+use Rattle.std.proofs.Common.{◌≡◌, ℕ, zero, suc, ◌<◌, List, ◌∷◌, All, map, set, get_or, length, Option, Some, None, slice_get, MatchOption, sym, refl, ap, subst, arith, ◌∙◌}
 use Rattle.std.proofs.lemmas.List.{map-set}
 use Rattle.std.proofs.Math.Seq.{map-set_same}
 use Rattle.std.proofs.lemmas.List.Elements.{All-cons}
-use Rattle.std.proofs.lemmas.Option.{slice_get-map, slice_get_read, slice_get-get_or}
+use Rattle.std.proofs.lemmas.Option.{slice_get-map, slice_get_read, slice_get-get_or, get_or_from_slice_get}
 use Rattle.std.specs.Option.{option_map}
 use Rattle.steal_pool.specs.declared.view.View.{View}
 use Rattle.steal_pool.specs.Victims.{TookOne}
@@ -27,7 +27,11 @@ module _ {X Y : Type 0} (f : X → Y) (xs zs : List X) (k : ℕ) (x : X) (is : x
       cc (a, b)
 
 -- what is taken of the others is taken of all
-pub after_own : (E : View → Type 0) (r : Option ℕ) (v w : View) (us us' : List View) → w ≡ v → E v → MatchOption r ((us' ≡ us) × All E us) (λ i. TookOne i us us')
-    → MatchOption r ((w ∷ us' ≡ v ∷ us) × All E (v ∷ us)) (λ i. TookOne i (v ∷ us) (w ∷ us'))
+pub after_own : (E : View → Type 0) (r : Option ℕ) (v w : View) (us us' : List View) → w ≡ v → E v → MatchOption r ((us' ≡ us) × All E us) (λ i. TookOne E i us us')
+    → MatchOption r ((w ∷ us' ≡ v ∷ us) × All E (v ∷ us)) (λ i. TookOne E i (v ∷ us) (w ∷ us'))
 after_own E None v w us us' same here rest = (cc (same, rest.0), All-cons E v us here rest.1)
-after_own E (Some i) v w us us' same here (k, u, at, is) = (suc k, u, at, cc (same, is))
+after_own E (Some i) v w us us' same here (k, u, at, is, passed) = (suc k, u, at, cc (same, is), before)
+  where
+    before : (j : ℕ) (x : View) → j < suc k → slice_get (v ∷ us) j ≡ Some x → E x
+    before zero x low same = subst E (get_or_from_slice_get (v ∷ us) 0 x v same) here
+    before (suc j) x low at = passed j x (omega (arith, low)) at

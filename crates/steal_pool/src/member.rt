@@ -33,7 +33,7 @@ impl<K: Fact> Member<K> {
         ensures member { IsMember self.new }
         ensures same { deques_of self.new ≡ deques_of self.old }
         ensures taken { MatchOption result ((views_of self.new ≡ views_of self.old)
-            × All N.empty (views_of self.old)) (λ i. TookOne i (views_of self.old) (views_of self.new)) }
+            × All N.empty (views_of self.old)) (λ i. TookOne N.empty i (views_of self.old) (views_of self.new)) }
         ensures round { (n : ℕ) (deques : List (RowsId × Global)) (w : ℕ) → GoesRound n deques w self.old
             → GoesRound n deques w self.new × MatchOption result (FoundEmpty N.empty n deques w self.old) (λ _. ⊤) }
     {
@@ -53,7 +53,7 @@ fn take_from<K: Fact, N: Note, R: Wait>(rt: &R, victims: &mut Vec<Victim<K>>) ->
     ensures same { map (λ l. stealer_deque l.stealer) victims.new.items ≡ map (λ l. stealer_deque l.stealer) victims.old.items }
     ensures taken { MatchOption result ((map (λ l. view l.pass) victims.new.items ≡ map (λ l. view l.pass) victims.old.items)
         × All N.empty (map (λ l. view l.pass) victims.old.items))
-        (λ i. TookOne i (map (λ l. view l.pass) victims.old.items) (map (λ l. view l.pass) victims.new.items)) }
+        (λ i. TookOne N.empty i (map (λ l. view l.pass) victims.old.items) (map (λ l. view l.pass) victims.new.items)) }
 {
     for k in 0..victims.len() {
         let victim = &mut victims[k];

@@ -1,5 +1,7 @@
-use Rattle.std.proofs.Common.{rules, below_more, subst, arith, ◌<◌, length, get_or, length-set, sym, ◌∙◌}
+use Rattle.std.proofs.Common.{rules, below_more, subst, arith, ◌<◌, length, get_or, length-set, map, sym, ◌∙◌}
+use Rattle.std.proofs.Math.ListN.{get_or-map}
 use Rattle.std.proofs.lemmas.List.Elements.{All-get_or, All-set, All-map}
+use Rattle.std.proofs.lemmas.Option.{get_or_from_slice_get}
 use Rattle.crossbeam_deque.specs.Handles.{view, stealer_deque}
 use Rattle.steal_pool.specs.declared.view.View.{View}
 use Rattle.steal_pool.specs.declared.victim.Victim.{Victim}
@@ -23,8 +25,13 @@ returns-in-Some-clause-taken g c =
     let f : Victim g.row.K.Denot → View = λ l. view l.pass in
     let x = c.index_mut-victim.result.now in let xs = c.loop-k.victims.items in let zs = c.args.victims.now.items in let is = c.index_mut-victim.ensures.value in
     let within : c.loop-k.k < length xs = search rules in
-    let e = c.loop-k.invariant.3 in
-    (c.loop-k.k, f x, found f xs zs c.loop-k.k x is e within, moved f xs zs c.loop-k.k x is e c.take.new.self _ c.in-Some.ensures.taken)
+    let e = c.loop-k.invariant.3 in (
+      c.loop-k.k,
+      f x,
+      found f xs zs c.loop-k.k x is e within,
+      moved f xs zs c.loop-k.k x is e c.take.new.self _ c.in-Some.ensures.taken,
+      λ j u low at. subst g.N.Note.empty (sym (get_or-map f zs j x) ∙ get_or_from_slice_get (map f zs) j u (f x) at) (c.loop-k.invariant.4 j x low),
+    )
 
 pub loop-k-preserved : goal.loop-k-preserved
 loop-k-preserved g c =

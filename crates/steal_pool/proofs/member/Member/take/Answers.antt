@@ -1,4 +1,4 @@
-use Rattle.std.proofs.Common.{◌≡◌, ◌∷◌, [], ap, refl, map, Some}
+use Rattle.std.proofs.Common.{◌≡◌, ◌∷◌, [], ap, refl, map, Some, arith}
 use Rattle.steal_pool.proofs.Steps.{takes}
 use Rattle.steal_pool.proofs.Turns.{after_own}
 use Rattle.crossbeam_deque.specs.Handles.{worker_deque, worker_view, view, stealer_deque}
@@ -21,7 +21,8 @@ returns-in-Some-clause-round g c n deques w round =
     let own : worker_deque new.own ≡ worker_deque old.own = c.in-Some.ensures.same.0.0 in
     let same : deques_of new ≡ deques_of old = ap (λ d. d ∷ map (λ (l : Victim g.row.K.Denot). stealer_deque l.stealer) old.others.items) own in
     let moved : worker_view new.own ≡ after_taking (worker_view old.own) (c.in-Some.i ∷ []) = c.in-Some.ensures.rule in
-    let took : TookOne c.in-Some.i (views_of old) (views_of new) = (0, worker_view old.own, refl, ap (λ v. v ∷ map (λ (l : Victim g.row.K.Denot). view l.pass) old.others.items) moved) in
+    let took : TookOne g.N.Note.empty c.in-Some.i (views_of old) (views_of new) =
+    (0, worker_view old.own, refl, ap (λ v. v ∷ map (λ (l : Victim g.row.K.Denot). view l.pass) old.others.items) moved, λ j u low. absurd (omega (arith, low))) in
     told g.N.Note.empty (Some c.in-Some.i) n deques w old new same took round
 
 pub returns-clause-taken : goal.returns-clause-taken
