@@ -38,56 +38,47 @@ fn sink(lists: &mut [u32], rank: u32, near: usize, end: usize) {
     }
 }
 
-/// The ranks of those that wait for no other, the best one last. They lie in the memory of the graph, from this place on.
-#[derive(Drop)]
-pub struct Free {
-    from: usize,
-}
-
-impl Free {
-    /// Returns those of a graph.
-    pub fn of(graph: &mut Graph) -> Free {
-        let free = Free {
-            from: graph.lists.len(),
-        };
-        for k in 0..graph.count() {
-            if let Some(node) = graph.nodes.get(k as usize)
+impl Graph {
+    /// Puts the ranks of those that wait for no other behind the lists, the best one last.
+    pub(crate) fn rank_all(&mut self) {
+        self.ranks = self.lists.len();
+        for k in 0..self.count() {
+            if let Some(node) = self.nodes.get(k as usize)
                 && node.waits_for == 0
             {
                 let rank = rank_of(node, k);
-                free.insert(graph, rank);
+                self.insert(rank);
             }
         }
-        free
     }
 
     /// Adds one at its place. Most come among the best few, so these make way for it one by one.
-    fn insert(&self, graph: &mut Graph, rank: u32) {
-        let end = graph.lists.len();
-        let near = end.saturating_sub(NEAR).max(self.from);
-        match graph.lists.get(near) {
-            Some(it) if *it > rank && near > self.from => {
-                let ranks = graph.lists.get(self.from..near).unwrap_or_default();
+    fn insert(&mut self, rank: u32) {
+        let end = self.lists.len();
+        let near = end.saturating_sub(NEAR).max(self.ranks);
+        match self.lists.get(near) {
+            Some(it) if *it > rank && near > self.ranks => {
+                let ranks = self.lists.get(self.ranks..near).unwrap_or_default();
                 let place = self
-                    .from
+                    .ranks
                     .saturating_add(ranks.partition_point(|it| *it < rank));
-                graph.is_refused |= graph.lists.insert(place.min(end), rank).is_err();
+                self.is_refused |= self.lists.insert(place.min(end), rank).is_err();
             }
             _ => {
-                graph.add(rank);
-                sink(graph.lists.as_mut_slice(), rank, near, end);
+                self.add(rank);
+                sink(self.lists.as_mut_slice(), rank, near, end);
             }
         }
     }
 
     /// Returns the place of the best one that nothing delays.
-    fn best(&self, graph: &Graph, delayed: Resources) -> Option<usize> {
-        for place in (self.from..graph.lists.len()).rev() {
+    fn best(&self, delayed: Resources) -> Option<usize> {
+        for place in (self.ranks..self.lists.len()).rev() {
             if delayed.is_empty() {
                 return Some(place);
             }
-            let rank = *graph.lists.get(place)?;
-            let node = graph.nodes.get(number_of(rank) as usize)?;
+            let rank = *self.lists.get(place)?;
+            let node = self.nodes.get(number_of(rank) as usize)?;
             if !node.facts.delayed().meets(delayed) {
                 return Some(place);
             }
@@ -96,29 +87,29 @@ impl Free {
     }
 
     /// Takes out the best one that nothing delays.
-    pub fn take_best(&self, graph: &mut Graph, delayed: Resources) -> Option<u32> {
-        let place = self.best(graph, delayed)?;
-        let rank = if place.saturating_add(1) >= graph.lists.len() {
-            graph.lists.pop()?
+    pub(crate) fn take_best(&mut self, delayed: Resources) -> Option<u32> {
+        let place = self.best(delayed)?;
+        let rank = if place.saturating_add(1) >= self.lists.len() {
+            self.lists.pop()?
         } else {
-            graph.lists.remove(place)
+            self.lists.remove(place)
         };
         Some(number_of(rank))
     }
 
     /// Adds those that waited for an instruction alone, which stands now.
-    pub fn release_all(&self, graph: &mut Graph, node: &Node) {
+    pub(crate) fn release_all(&mut self, node: &Node) {
         for i in node.waiting.0..node.waiting.1 {
-            let Some(k) = graph.lists.get(i as usize).copied() else {
+            let Some(k) = self.lists.get(i as usize).copied() else {
                 break;
             };
-            let Some(later) = graph.nodes.get_mut(k as usize) else {
+            let Some(later) = self.nodes.get_mut(k as usize) else {
                 break;
             };
             later.waits_for = later.waits_for.saturating_sub(1);
             if later.waits_for == 0 {
                 let rank = rank_of(later, k);
-                self.insert(graph, rank);
+                self.insert(rank);
             }
         }
     }

@@ -1,9 +1,9 @@
 //! What has to stay before what in a block. The graph is made from the last instruction on, so a node's height is known when it is linked.
-use crate::link::Link;
-use crate::memory::{Accesses, mark_fixed};
-use crate::node::{AFTER_LOAD, Facts, Kept, NEXT, Node, PRODUCT_AFTER_MOVE};
+use crate::memory::Accesses;
+use crate::node::{AFTER_LOAD, Facts, NEXT, Node, PRODUCT_AFTER_MOVE, keep_needed};
 use crate::resources::Resources;
 use mblock::Exit;
+use mips_isa::Plain;
 use std::alloc::{AllocError, Global};
 use std::mem::replace;
 
@@ -15,6 +15,8 @@ pub struct Graph {
     /// The numbers of those that wait for a node, for one node after another, and then the ranks of those that may come next. One may be left
     /// out that waits by way of others.
     pub(crate) lists: Vec<u32>,
+    /// Where those ranks begin.
+    pub(crate) ranks: usize,
     // The height, so far, of the node that is linked.
     height: u32,
     /// Whether memory was refused to the lists, which then lack a number.
@@ -22,17 +24,10 @@ pub struct Graph {
 }
 
 /// The next uses of a register, HI or LO: the first writer, and the readers before it. A reader has its number and which of its reads it is.
-#[derive(Clone, Copy)]
+#[derive(Clone, Copy, Default)]
 struct Uses {
-    writer: Link,
-    readers: Link,
-}
-
-impl Uses {
-    const NONE: Uses = Uses {
-        writer: Link::NONE,
-        readers: Link::NONE,
-    };
+    writer: Option<u32>,
+    readers: Option<u32>,
 }
 
 /// Those of each.
@@ -66,18 +61,18 @@ impl Graph {
     /// Puts it before the next readers of a register, or before the next writer, which waits for those.
     fn put_before_uses(&mut self, uses: Uses, words: u32) {
         let mut at = uses.readers;
-        if at.number().is_none()
-            && let Some(writer) = uses.writer.number()
+        if at.is_none()
+            && let Some(writer) = uses.writer
         {
             self.put_before(writer, words);
         }
         for _ in 0..self.nodes.len() {
-            let Some(read) = at.number() else {
+            let Some(read) = at else {
                 break;
             };
             at = match self.nodes.get((read / 2) as usize) {
                 Some(node) => node.readers[(read % 2) as usize],
-                None => Link::NONE,
+                None => None,
             };
             self.put_before(read / 2, words);
         }
@@ -94,42 +89,37 @@ impl Graph {
             if let Some(uses) = users.get_mut(resource) {
                 self.put_before_uses(*uses, words);
                 *uses = Uses {
-                    writer: Link::to(k),
-                    readers: Link::NONE,
+                    writer: Some(k),
+                    readers: None,
                 };
             }
             left = others;
         }
     }
 
-    /// Puts it before the writer of what it reads, and notes that it does; returns the next reader.
-    fn link_read(&mut self, reader: u32, resource: usize, words: u32, users: &mut Users) -> Link {
-        let Some(uses) = users.get_mut(resource) else {
-            return Link::NONE;
-        };
-        if let Some(writer) = uses.writer.number() {
-            self.put_before(writer, words);
-        }
-        replace(&mut uses.readers, Link::to(reader))
-    }
-
-    /// Does so for all that it reads; returns the next reader of each.
-    fn link_reads(&mut self, k: u32, facts: &Facts, users: &mut Users) -> [Link; 2] {
+    /// Puts it before the writers of what it reads, and notes that it does; returns the next reader of each.
+    fn link_reads(&mut self, k: u32, facts: &Facts, users: &mut Users) -> [Option<u32>; 2] {
         let words = if facts.moves() {
             PRODUCT_AFTER_MOVE
         } else {
             NEXT
         };
-        let reader = k.wrapping_mul(2);
-        let Some((resource, others)) = facts.reads.difference(facts.writes).split() else {
-            return [Link::NONE; 2];
-        };
-        let first = self.link_read(reader, resource, words, users);
-        let Some((resource, _)) = others.split() else {
-            return [first, Link::NONE];
-        };
-        let second = self.link_read(reader.wrapping_add(1), resource, words, users);
-        [first, second]
+        let mut next = [None; 2];
+        let mut left = facts.reads.difference(facts.writes);
+        for which in 0..2u32 {
+            let Some((resource, others)) = left.split() else {
+                break;
+            };
+            if let Some(uses) = users.get_mut(resource) {
+                if let Some(writer) = uses.writer {
+                    self.put_before(writer, words);
+                }
+                let reader = k.wrapping_mul(2).wrapping_add(which);
+                next[which as usize] = replace(&mut uses.readers, Some(reader));
+            }
+            left = others;
+        }
+        next
     }
 
     /// Puts a node before all that have to stay after it, which are linked already.
@@ -140,16 +130,15 @@ impl Graph {
         users: &mut Users,
         accesses: &mut Option<Accesses>,
     ) {
-        let Some(node) = self.nodes.get(k as usize) else {
+        let Some(node) = self.nodes.get(k as usize).copied() else {
             return;
         };
-        let facts = node.facts;
         let begin = self.place();
-        self.height = facts.words_to_exit(touched);
-        self.link_writes(k, &facts, users);
-        let readers = self.link_reads(k, &facts, users);
+        self.height = node.facts.words_to_exit(touched);
+        self.link_writes(k, &node.facts, users);
+        let readers = self.link_reads(k, &node.facts, users);
         if let Some(accesses) = accesses {
-            accesses.link(self, k, &facts);
+            accesses.link(self, k, &node);
         }
         let end = self.place();
         if let Some(node) = self.nodes.get_mut(k as usize) {
@@ -160,32 +149,23 @@ impl Graph {
     }
 
     /// Returns the graph of a block's instructions; one that `is_refused` lacks some of the order.
-    pub fn of(alloc: Global, kept: Kept, exit: &Exit) -> Result<Graph, AllocError> {
-        let Kept {
-            mut nodes,
-            has_ties,
-            has_late_load,
-        } = kept;
-        if has_late_load {
-            mark_fixed(nodes.as_mut_slice());
-        }
-        let mut accesses = if has_ties {
-            Some(Accesses::new(alloc, nodes.len())?)
-        } else {
-            None
-        };
+    pub fn of(alloc: Global, insts: &[Plain], exit: &Exit) -> Result<Graph, AllocError> {
+        let mut nodes = keep_needed(alloc, insts)?;
+        let mut accesses = Accesses::of(alloc, nodes.as_mut_slice())?;
         let lists = Vec::with_capacity(alloc, nodes.len().saturating_mul(3))?;
         let mut graph = Graph {
             nodes,
             lists,
+            ranks: 0,
             height: NEXT,
             is_refused: false,
         };
         let touched = Resources::touched_at_exit(exit);
-        let mut users = [Uses::NONE; Resources::COUNT];
+        let mut users = [Uses::default(); Resources::COUNT];
         for k in 0..graph.count() {
             graph.link(k, touched, &mut users, &mut accesses);
         }
+        graph.rank_all();
         Ok(graph)
     }
 }

@@ -36,25 +36,15 @@ impl Reorder for Hostile {
 
     fn reorder(&self, alloc: Global, block: &Block) -> Result<Order, AllocError> {
         let order = plain(alloc, block)?;
-        let changed = change(alloc, *self, block, &order)?;
+        let changed = match *self {
+            Hostile::Silent => return Err(AllocError),
+            Hostile::Slot => last_in_slot(alloc, block)?,
+            kind => {
+                let insts = change_insts(alloc, kind, order.insts())?;
+                Order::new(insts, change_exit(kind, order.exit()), order.slot())
+            }
+        };
         Ok(changed.unwrap_or(order))
-    }
-}
-
-/// Returns what is proposed in place of a block's plain order, if there is something to change.
-fn change(
-    alloc: Global,
-    kind: Hostile,
-    block: &Block,
-    order: &Order,
-) -> Result<Option<Order>, AllocError> {
-    match kind {
-        Hostile::Silent => Err(AllocError),
-        Hostile::Slot => last_in_slot(alloc, block),
-        _ => {
-            let insts = change_insts(alloc, kind, order.insts())?;
-            Ok(Order::new(insts, change_exit(kind, order.exit()), order.slot()))
-        }
     }
 }
 

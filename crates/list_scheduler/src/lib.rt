@@ -11,12 +11,10 @@
 #![tactic(auto)]
 
 mod access;
-mod delays;
 mod filled;
 mod free;
 mod graph;
 mod hostile;
-mod link;
 mod list;
 mod memory;
 mod node;

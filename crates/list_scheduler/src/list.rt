@@ -1,10 +1,8 @@
 //! The list scheduler.
 ghost use Rattle.std.specs.Prelude.{⊤};
 
-use crate::delays::Delays;
-use crate::free::Free;
 use crate::graph::Graph;
-use crate::node::{Facts, NEXT, keep_needed};
+use crate::node::{Facts, NEXT};
 use crate::reorder::Reorder;
 use crate::resources::Resources;
 use crate::standing::list_standing;
@@ -32,15 +30,16 @@ impl Reorder for ListOrder {
 }
 
 /// Lists the instructions of the graph word by word, one more than an order may have at most.
-fn list_words(graph: &mut Graph, free: &Free, list: &mut Vec<Plain>) -> Result<(), AllocError> {
+fn list_words(graph: &mut Graph, list: &mut Vec<Plain>) -> Result<(), AllocError> {
     let mut left = graph.nodes.len();
-    let mut delays = Delays::none();
+    // what the next word may not do, and the one after it
+    let (mut delayed, mut later) = (Resources::NONE, Resources::NONE);
     for _ in 0..=ORDER_INSTS {
         if left == 0 {
             break;
         }
-        let next = free.take_best(graph, delays.delayed());
-        delays.pass_word();
+        let next = graph.take_best(delayed);
+        (delayed, later) = (later, Resources::NONE);
         let Some(k) = next else {
             list.push(Plain::nop())?;
             continue;
@@ -49,8 +48,14 @@ fn list_words(graph: &mut Graph, free: &Free, list: &mut Vec<Plain>) -> Result<(
             break;
         };
         list.push(node.inst)?;
-        delays.start(&node.facts);
-        free.release_all(graph, &node);
+        if node.facts.loads() {
+            delayed = delayed.union(node.facts.writes);
+        }
+        if node.facts.moves() {
+            delayed = delayed.union(Resources::PRODUCT);
+            later = Resources::PRODUCT;
+        }
+        graph.release_all(&node);
         left = left.saturating_sub(1);
     }
     Ok(())
@@ -63,9 +68,8 @@ fn list_insts(alloc: Global, insts: &[Plain], exit: &Exit) -> Result<Vec<Plain>,
         return Ok(list);
     }
     list.clear();
-    let mut graph = Graph::of(alloc, keep_needed(alloc, insts)?, exit)?;
-    let free = Free::of(&mut graph);
-    list_words(&mut graph, &free, &mut list)?;
+    let mut graph = Graph::of(alloc, insts, exit)?;
+    list_words(&mut graph, &mut list)?;
     if graph.is_refused {
         return Err(AllocError);
     }

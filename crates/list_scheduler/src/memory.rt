@@ -1,12 +1,12 @@
 //! Which loads and stores have to stay in their order.
 use crate::access::{Access, access_of};
 use crate::graph::Graph;
-use crate::link::Link;
-use crate::node::{Facts, Memory, NEXT, Node};
+use crate::node::{NEXT, Node};
 use crate::resources::Resources;
-use crate::sets::{Sets, last_bit, number};
+use crate::sets::{Sets, greatest};
 use mips_isa::Reg;
 use std::alloc::{AllocError, Global};
+use std::mem::replace;
 
 // How many lists the stores are divided among, by the words that they store.
 const BUCKETS: usize = 16;
@@ -17,7 +17,7 @@ const SCATTER: u32 = 2_654_435_769;
 /// The stores by their offsets, the nearest one first in each list.
 #[derive(Drop)]
 struct Buckets {
-    firsts: [Link; BUCKETS],
+    firsts: [Option<u32>; BUCKETS],
     // Whether a store is among them that spans two words.
     has_shifted: bool,
 }
@@ -31,56 +31,58 @@ impl Buckets {
     /// Returns empty lists.
     fn none() -> Buckets {
         Buckets {
-            firsts: [Link::NONE; BUCKETS],
+            firsts: [None; BUCKETS],
             has_shifted: false,
         }
     }
 
-    /// Returns the nearest store of a bucket.
-    fn first(&self, bucket: usize) -> Link {
-        self.firsts.get(bucket).copied().unwrap_or(Link::NONE)
+    /// Returns the nearest store of a word's list.
+    fn first(&self, word: u32) -> Option<u32> {
+        *self.firsts.get(bucket_of(word))?
     }
 
-    /// Adds a store, and returns the next one of its list.
-    fn add(&mut self, k: u32, store: &Access) -> Link {
+    /// Adds a store to its list.
+    fn add(&mut self, nodes: &mut [Node], k: u32, store: &Access) {
         self.has_shifted |= store.is_shifted();
-        let Some(first) = self.firsts.get_mut(bucket_of(store.offset / 4)) else {
-            return Link::NONE;
-        };
-        let next = *first;
-        *first = Link::to(k);
-        next
+        if let Some(first) = self.firsts.get_mut(bucket_of(store.offset / 4))
+            && let Some(node) = nodes.get_mut(k as usize)
+        {
+            node.bucket = replace(first, Some(k));
+        }
     }
 
-    /// Returns the words in which a store may begin that an access meets: the first one, and how many.
-    fn words_of(&self, access: &Access) -> (u32, u32) {
+    /// Returns the lists of the words in which a store may begin that an access meets.
+    fn lists_of(&self, access: &Access) -> [Option<u32>; 3] {
         let word = access.offset / 4;
-        if self.has_shifted || access.is_shifted() {
-            (word.wrapping_sub(1), 3)
-        } else {
-            (word, 1)
+        let here = self.first(word);
+        if !self.has_shifted && !access.is_shifted() {
+            return [here, None, None];
         }
+        [
+            self.first(word.wrapping_sub(1)),
+            here,
+            self.first(word.wrapping_add(1)),
+        ]
     }
 }
 
 /// Returns a store of a list, with its number, and the next one.
-fn store_at(nodes: &[Node], at: Link) -> Option<(u32, Access, Link)> {
-    let k = at.number()?;
+fn store_at(nodes: &[Node], at: Option<u32>) -> Option<(u32, Access, Option<u32>)> {
+    let k = at?;
     let node = nodes.get(k as usize)?;
     let access = access_of(&node.inst)?;
     Some((k, access, node.bucket))
 }
 
 /// Reports whether a load loads what a store may have stored that came since its base was written.
-fn meets_store(nodes: &[Node], buckets: &Buckets, load: &Access, written: Link) -> bool {
-    let (word, count) = buckets.words_of(load);
-    for step in 0..count {
-        let mut at = buckets.first(bucket_of(word.wrapping_add(step)));
+fn meets_store(nodes: &[Node], buckets: &Buckets, load: &Access, written: Option<u32>) -> bool {
+    for first in buckets.lists_of(load) {
+        let mut at = first;
         for _ in 0..nodes.len() {
             let Some((k, store, next)) = store_at(nodes, at) else {
                 break;
             };
-            if matches!(written.number(), Some(writer) if writer <= k) {
+            if matches!(written, Some(writer) if writer <= k) {
                 break;
             }
             if load.meets(&store) {
@@ -93,46 +95,32 @@ fn meets_store(nodes: &[Node], buckets: &Buckets, load: &Access, written: Link) 
 }
 
 /// Marks the loads that load in part what an earlier store over the same base stores.
-pub fn mark_fixed(nodes: &mut [Node]) {
+fn mark_fixed(nodes: &mut [Node]) {
     let mut buckets = Buckets::none();
-    let mut writers = [Link::NONE; Resources::COUNT];
+    let mut writers = [None; Resources::COUNT];
     let count = u32::try_from(nodes.len()).unwrap_or(u32::MAX);
     for k in (0..count).rev() {
         let Some(node) = nodes.get(k as usize) else {
             break;
         };
-        let (writes, access) = (node.facts.writes, access_of(&node.inst));
-        if let Some(access) = access {
-            mark(nodes, &mut buckets, k, &access, &writers);
+        let writes = node.facts.writes;
+        match access_of(&node.inst) {
+            Some(store) if store.stores => buckets.add(nodes, k, &store),
+            Some(load) => {
+                let base = load.base.index() as usize;
+                let written = writers.get(base).copied().unwrap_or(None);
+                let is_fixed = meets_store(nodes, &buckets, &load, written);
+                if let Some(node) = nodes.get_mut(k as usize) {
+                    node.is_fixed = is_fixed;
+                }
+            }
+            None => {}
         }
         if let Some((resource, _)) = writes.split()
             && let Some(writer) = writers.get_mut(resource)
         {
-            *writer = Link::to(k);
+            *writer = Some(k);
         }
-    }
-}
-
-/// Adds a store to its list, or marks a load that meets one.
-fn mark(
-    nodes: &mut [Node],
-    buckets: &mut Buckets,
-    k: u32,
-    access: &Access,
-    writers: &[Link; Resources::COUNT],
-) {
-    if access.stores {
-        let next = buckets.add(k, access);
-        if let Some(node) = nodes.get_mut(k as usize) {
-            node.bucket = next;
-        }
-        return;
-    }
-    let base = access.base.index() as usize;
-    let written = writers.get(base).copied().unwrap_or(Link::NONE);
-    let is_fixed = meets_store(nodes, buckets, access, written);
-    if let Some(node) = nodes.get_mut(k as usize) {
-        node.is_fixed = is_fixed;
     }
 }
 
@@ -169,13 +157,23 @@ fn after(k: usize) -> usize {
 }
 
 impl Accesses {
-    /// Returns the accesses after the last of so many instructions: none.
-    pub fn new(alloc: Global, count: usize) -> Result<Accesses, AllocError> {
-        Ok(Accesses {
-            sets: Sets::new(alloc, after(count), count)?,
+    /// Returns the accesses after the last of a block's instructions: none. There is no order to keep without a store, and another store or
+    /// a load. The loads are marked that keep their places.
+    pub fn of(alloc: Global, nodes: &mut [Node]) -> Result<Option<Accesses>, AllocError> {
+        let last_load = nodes.iter().position(|node| node.facts.loads());
+        let last_store = nodes.iter().position(|node| node.facts.stores());
+        let first_store = nodes.iter().rposition(|node| node.facts.stores());
+        if first_store.is_none() || (last_load.is_none() && last_store == first_store) {
+            return Ok(None);
+        }
+        if matches!((last_load, first_store), (Some(load), Some(store)) if load < store) {
+            mark_fixed(nodes);
+        }
+        Ok(Some(Accesses {
+            sets: Sets::new(alloc, after(nodes.len()), nodes.len())?,
             bases: Resources::NONE,
             buckets: Buckets::none(),
-        })
+        }))
     }
 
     /// Returns a word of the set of those that have to stay after an access, whatever bytes they load or store.
@@ -204,10 +202,7 @@ impl Accesses {
         for w in (0..self.sets.width()).rev() {
             let all = self.word_behind(access, is_fixed, w);
             for _ in 0..64 {
-                let Some(bit) = last_bit(all & !self.sets.word(after(k), w)) else {
-                    break;
-                };
-                let Ok(later) = u32::try_from(number(w, bit)) else {
+                let Some(later) = greatest(w, all & !self.sets.word(after(k), w)) else {
                     break;
                 };
                 self.put_before(graph, k, later);
@@ -216,7 +211,7 @@ impl Accesses {
     }
 
     /// Puts an access before the stores of a list that store some of its bytes, up to one that stores all.
-    fn link_list(&mut self, graph: &mut Graph, k: usize, access: &Access, first: Link) {
+    fn link_list(&mut self, graph: &mut Graph, k: usize, access: &Access, first: Option<u32>) {
         let mut at = first;
         for _ in 0..graph.nodes.len() {
             let Some((later, store, next)) = store_at(graph.nodes.as_slice(), at) else {
@@ -246,37 +241,25 @@ impl Accesses {
         }
         if access.stores {
             self.sets.insert(STORES, number);
-            let next = self.buckets.add(k, access);
-            if let Some(node) = graph.nodes.get_mut(number) {
-                node.bucket = next;
-            }
+            self.buckets.add(graph.nodes.as_mut_slice(), k, access);
         }
     }
 
     /// Notes what an instruction writes, and puts its load or store before those that have to stay after it.
-    pub fn link(&mut self, graph: &mut Graph, k: u32, facts: &Facts) {
-        if let Some((base, _)) = facts.writes.intersection(self.bases).split() {
+    pub fn link(&mut self, graph: &mut Graph, k: u32, node: &Node) {
+        if let Some((base, _)) = node.facts.writes.intersection(self.bases).split() {
             self.sets.clear(FELLOWS.wrapping_add(base));
-            self.bases = self.bases.difference(facts.writes);
+            self.bases = self.bases.difference(node.facts.writes);
         }
-        if facts.memory == Memory::Apart {
-            return;
-        }
-        let Some(node) = graph.nodes.get(k as usize) else {
-            return;
-        };
-        let is_fixed = node.is_fixed;
         let Some(access) = access_of(&node.inst) else {
             return;
         };
-        self.link_sets(graph, k as usize, &access, is_fixed);
-        if !is_fixed {
-            let (word, count) = self.buckets.words_of(&access);
-            for step in 0..count {
-                let first = self.buckets.first(bucket_of(word.wrapping_add(step)));
+        self.link_sets(graph, k as usize, &access, node.is_fixed);
+        if !node.is_fixed {
+            for first in self.buckets.lists_of(&access) {
                 self.link_list(graph, k as usize, &access, first);
             }
         }
-        self.add(graph, k, &access, is_fixed);
+        self.add(graph, k, &access, node.is_fixed);
     }
 }

@@ -1,5 +1,4 @@
 //! What a scheduler asks of an instruction, looked up once.
-use crate::link::Link;
 use crate::resources::Resources;
 use mips_isa::{HiLo, Plain};
 use std::alloc::{AllocError, Global};
@@ -112,9 +111,9 @@ pub struct Node {
     /// Where those that wait for it begin and end, in the list of them all.
     pub waiting: (u32, u32),
     /// The next reader of each of the registers that it reads.
-    pub readers: [Link; 2],
+    pub readers: [Option<u32>; 2],
     /// The next access of its kind in its bucket.
-    pub bucket: Link,
+    pub bucket: Option<u32>,
 }
 
 impl Node {
@@ -127,51 +126,22 @@ impl Node {
             waits_for: 0,
             height: NEXT,
             waiting: (0, 0),
-            readers: [Link::NONE; 2],
-            bucket: Link::NONE,
+            readers: [None; 2],
+            bucket: None,
         }
     }
 }
 
-/// The instructions of a block that are needed, and what is known of them together.
-#[derive(Drop)]
-pub struct Kept {
-    /// The instructions, the last one first.
-    pub nodes: Vec<Node>,
-    /// Whether there is a store, and another store or a load.
-    pub has_ties: bool,
-    /// Whether a load comes after a store.
-    pub has_late_load: bool,
-}
-
-/// Returns the instructions of a block without those whose results it overwrites before they are read.
-pub fn keep_needed(alloc: Global, insts: &[Plain]) -> Result<Kept, AllocError> {
+/// Returns the instructions of a block, the last one first, without those whose results it overwrites before they are read.
+pub fn keep_needed(alloc: Global, insts: &[Plain]) -> Result<Vec<Node>, AllocError> {
     let mut nodes = Vec::with_capacity(alloc, insts.len())?;
     let mut wanted = Resources::ALL;
-    let (mut has_load, mut has_late_load) = (false, false);
-    let (mut has_store, mut has_ties) = (false, false);
     for inst in insts.iter().rev() {
         let facts = Facts::of(inst);
         if facts.are_needed(wanted) {
             wanted = facts.wanted_before(wanted);
-            match facts.memory {
-                Memory::Apart => {}
-                Memory::Loads => {
-                    has_ties |= has_store;
-                    has_load = true;
-                }
-                Memory::Stores => {
-                    has_ties |= has_store || has_load;
-                    has_late_load |= has_load;
-                    has_store = true;
-                }
-            }
             nodes.push(Node::new(*inst, facts))?;
         }
     }
-    Ok(Kept {
-        nodes,
-        has_ties,
-        has_late_load,
-    })
+    Ok(nodes)
 }

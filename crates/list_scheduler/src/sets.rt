@@ -66,15 +66,8 @@ impl Sets {
     }
 }
 
-/// Returns the number of a bit of a word.
-pub fn number(w: usize, bit: usize) -> usize {
-    w.wrapping_mul(64).wrapping_add(bit)
-}
-
-/// Returns the greatest bit of a word.
-pub fn last_bit(word: u64) -> Option<usize> {
-    if word == 0 {
-        return None;
-    }
-    Some(63 - word.leading_zeros() as usize)
+/// Returns the greatest number of a word of a set, if it has one.
+pub fn greatest(w: usize, word: u64) -> Option<u32> {
+    let bit = 63u32.checked_sub(word.leading_zeros())?;
+    u32::try_from(w).ok()?.checked_mul(64)?.checked_add(bit)
 }

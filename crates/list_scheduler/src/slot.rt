@@ -33,27 +33,17 @@ impl<'a> Passed<'a> {
         let Some(store) = access_of(inst) else {
             return true;
         };
-        let passed = self.insts.get(k.saturating_add(1)..).unwrap_or_default();
-        for inst in passed {
-            if let Some(access) = access_of(inst)
-                && !store.passes(&access)
-            {
-                return false;
-            }
+        let insts = self.insts;
+        let passed = insts.get(k.saturating_add(1)..).unwrap_or_default();
+        let passes = |inst: &Plain| access_of(inst).is_none_or(|access| store.passes(&access));
+        if !passed.iter().all(passes) {
+            return false;
         }
-        self.look_at_loads(k);
-        !self.has_fixed_load
-    }
-
-    /// Looks at the loads after instruction k, if it wasn't done.
-    fn look_at_loads(&mut self, k: usize) {
-        for i in (k..self.looked).rev() {
-            if self.has_fixed_load {
-                break;
-            }
-            self.has_fixed_load = is_fixed_load(self.insts, i);
-        }
+        // the loads after k at which it wasn't looked
+        self.has_fixed_load = self.has_fixed_load
+            || (k..self.looked).any(|load| is_fixed_load(insts, load));
         self.looked = k;
+        !self.has_fixed_load
     }
 }
 
@@ -65,18 +55,10 @@ fn is_fixed_load(insts: &[Plain], k: usize) -> bool {
     let Some(load) = access_of(inst) else {
         return false;
     };
-    if load.stores {
-        return false;
-    }
-    for inst in before {
-        if let Some(store) = access_of(inst)
-            && store.stores
-            && load.meets(&store)
-        {
-            return true;
-        }
-    }
-    false
+    let is_met = |inst: &Plain| {
+        matches!(access_of(inst), Some(store) if store.stores && load.meets(&store))
+    };
+    !load.stores && before.iter().any(is_met)
 }
 
 /// Reports whether an instruction makes a product.

@@ -56,20 +56,16 @@ impl Standing {
     /// Returns how many words higher than the first of them one is that stands before them; None for one that is lower.
     fn rise_to(&self, facts: &Facts) -> Option<u32> {
         // a load stands two words before who uses it, the others one
-        let (two, one, level) = if facts.loads() {
-            (
-                self.top.uses(facts),
-                self.second.uses(facts),
-                self.third.uses(facts),
-            )
+        let (one, level) = if facts.loads() {
+            (self.second, self.third)
         } else {
-            (false, self.top.uses(facts), self.second.uses(facts))
+            (self.top, self.second)
         };
-        if two {
+        if facts.loads() && self.top.uses(facts) {
             Some(2)
-        } else if one || facts.reads.meets(self.top.written) {
+        } else if one.uses(facts) || facts.reads.meets(self.top.written) {
             Some(1)
-        } else if level || self.is_lowest || facts.reads.meets(self.second.written) {
+        } else if self.is_lowest || level.uses(facts) || facts.reads.meets(self.second.written) {
             Some(0)
         } else {
             None
