@@ -23,7 +23,7 @@ IsPrintableExplanation e =
 abbrev pub shown_byte : ℕ → ℕ
 shown_byte byte = if nat_le 32 byte && nat_le byte 126 then byte else 63
 
--- a name of a file, as it is printed
+-- a text within a line, such as a file's name, as it is shown
 abbrev pub shown_name : List ℕ → List ℕ
 shown_name name = map shown_byte name
 

@@ -1,7 +1,7 @@
 //! What is said of a fault below its line: what is wrong, and what to write in its place.
 
-ghost use Rattle.std.specs.Prelude.{All, IfOk, IfSome};
-ghost use Rattle.text.specs.Shown.{IsPrintable, IsPrintableExplanation};
+ghost use Rattle.std.specs.Prelude.{◌≡◌, None, All, IfOk, IfSome, option_map};
+ghost use Rattle.text.specs.Shown.{IsPrintable, IsPrintableExplanation, shown_name};
 
 use crate::printable::printable_byte;
 use std::alloc::{AllocError, Global};
@@ -19,18 +19,16 @@ pub struct Explanation {
 
 /// Returns the text with `?` for what isn't printable ASCII.
 fn printable_bytes(alloc: Global, text: &[u8]) -> Result<Vec<u8>, AllocError>
-    ensures { IfOk result (λ bytes. All IsPrintable bytes.items) }
+    ensures exact { IfOk result (λ bytes. bytes.items ≡ shown_name text.now) }
+    ensures printable { IfOk result (λ bytes. All IsPrintable bytes.items) }
 {
-    let mut bytes = Vec::new(alloc);
-    for byte in text {
-        bytes.push(printable_byte(*byte))?;
-    }
-    Ok(bytes)
+    text.iter().map(|byte| printable_byte(*byte)).collect(alloc)
 }
 
 /// Returns the same of a text that may be missing.
 fn printable_if_some(alloc: Global, text: Option<&[u8]>) -> Result<Option<Vec<u8>>, AllocError>
-    ensures { IfOk result (λ o. IfSome o (λ bytes. All IsPrintable bytes.items)) }
+    ensures exact { IfOk result (λ o. option_map (λ v. v.items) o ≡ option_map (λ t. shown_name t.now) text.entry) }
+    ensures printable { IfOk result (λ o. IfSome o (λ bytes. All IsPrintable bytes.items)) }
 {
     match text {
         Some(text) => Ok(Some(printable_bytes(alloc, text)?)),
@@ -41,7 +39,10 @@ fn printable_if_some(alloc: Global, text: Option<&[u8]>) -> Result<Option<Vec<u8
 impl Explanation {
     /// Returns the message and the hint, with `?` for each byte that isn't printable ASCII.
     pub fn new(alloc: Global, message: &str, hint: Option<&str>) -> Result<Explanation, AllocError>
-        ensures { IfOk result IsPrintableExplanation }
+        ensures message { IfOk result (λ e. e.message.items ≡ shown_name message.now) }
+        ensures hint { IfOk result (λ e. option_map (λ v. v.items) e.hint ≡ option_map (λ t. shown_name t.now) hint.entry) }
+        ensures more { IfOk result (λ e. e.more ≡ None) }
+        ensures printable { IfOk result IsPrintableExplanation }
     {
         let hint = match hint {
             Some(hint) => Some(hint.as_bytes()),
@@ -57,7 +58,10 @@ impl Explanation {
         hint: Option<&[u8]>,
         more: Option<&[u8]>,
     ) -> Result<Explanation, AllocError>
-        ensures { IfOk result IsPrintableExplanation }
+        ensures message { IfOk result (λ e. e.message.items ≡ shown_name message.now) }
+        ensures hint { IfOk result (λ e. option_map (λ v. v.items) e.hint ≡ option_map (λ t. shown_name t.now) hint.entry) }
+        ensures more { IfOk result (λ e. option_map (λ v. v.items) e.more ≡ option_map (λ t. shown_name t.now) more.entry) }
+        ensures printable { IfOk result IsPrintableExplanation }
     {
         let message = printable_bytes(alloc, message)?;
         let hint = printable_if_some(alloc, hint)?;

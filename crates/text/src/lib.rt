@@ -3,7 +3,7 @@
 //! Definitions: `specs/Shown.antt`, `specs/Written.antt`.
 //! Contract: `Writer`, `Page`, `Explanation::new`, `Said`, `printable_byte`
 //! - A `Writer` writes what it is given, as it is shown, or reports refused memory.
-//! - A `Page` is printable ASCII and line feeds. An `Explanation` is printable ASCII.
+//! - A `Page` is printable ASCII and line feeds. An `Explanation` has the texts that it is made of, in printable ASCII.
 #![tactic(auto)]
 
 mod explanation;
