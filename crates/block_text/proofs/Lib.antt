@@ -8,3 +8,4 @@ pub mod Stood
 pub mod Reading
 pub mod Ends
 pub mod Values
+pub mod Writing

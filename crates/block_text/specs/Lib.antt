@@ -4,4 +4,3 @@ pub mod Whole
 pub mod StageParts
 pub mod Stages
 pub mod Faults
-pub mod Named

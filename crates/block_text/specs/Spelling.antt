@@ -1,15 +1,17 @@
 -- Instructions and exits as lines.
-use Rattle.std.specs.Prelude.{◌≡◌, ℕ, Option, Some, None, List, ◌++◌, ◌⊎◌, codes, decimal}
+use Rattle.std.specs.List.{flat_map}
+use Rattle.std.specs.Prelude.{◌≡◌, ℕ, Option, Some, None, List, [], ◌++◌, ◌⊎◌, codes, decimal}
 use Rattle.mips_isa.specs.declared.inst.Plain.{Plain}
 use Rattle.mips_isa.specs.declared.inst.PairTest.TheVariants.{Equal, NotEqual}
 use Rattle.mips_isa.specs.declared.inst.ZeroTest.TheVariants.{AtMostZero, AboveZero, BelowZero, AtLeastZero}
 use Rattle.mips_isa.specs.declared.text.Mnemonic.{Mnemonic}
 use Rattle.mips_isa.specs.Actions.{nop}
 use Rattle.mips_isa.specs.Ranges.{IsPlain}
-use Rattle.mips_isa.specs.Texts.{register_text, mnemonic_of, operands_text, plain_text}
+use Rattle.mips_isa.specs.Texts.{register_text, mnemonic_of, instruction_text, operands_text, plain_text}
 use Rattle.mblock.specs.declared.exit.Exit.{Exit}
 use Rattle.mblock.specs.declared.exit.Exit.TheVariants.{Goto, BranchPair, BranchZero, Call, Return, Out, Halt}
 use Rattle.mblock.specs.Ranges.{IsExit}
+use Rattle.mblock.specs.Parts.{OrderParts}
 use Rattle.block_text.specs.declared.names.ExitName.{ExitName}
 use Rattle.block_text.specs.declared.names.ExitName.TheVariants as names
 
@@ -59,6 +61,18 @@ named_text (Some name) text = exit_name_text name ++ (codes " " ++ text)
 
 abbrev pub exit_text : Exit → List ℕ
 exit_text e = named_text (name_of_exit e) (targets_text e)
+
+-- instructions as lines, each after a margin and before an end
+abbrev pub insts_text : (margin end : List ℕ) → List Plain → List ℕ
+insts_text margin end insts = flat_map (λ i. margin ++ (instruction_text i ++ end)) insts
+
+-- an order as lines: its instructions, its exit, and its slot
+abbrev pub slot_text : (margin end : List ℕ) → Option Plain → List ℕ
+slot_text margin end None = []
+slot_text margin end (Some i) = margin ++ (codes "slot " ++ (instruction_text i ++ end))
+
+abbrev pub order_text : (margin end : List ℕ) → OrderParts → List ℕ
+order_text margin end o = insts_text margin end o.insts ++ (margin ++ (exit_text o.exit ++ (end ++ slot_text margin end o.slot)))
 
 abbrev pub SpellsExit : List ℕ → Exit → Type 0
 SpellsExit line e = IsExit e × (line ≡ exit_text e)

@@ -1,9 +1,10 @@
 //! Blocks and orders as text: the check text, as it is read and written.
 //!
 //! Definitions: `specs/Whole.antt`.
-//! Contract: `read`
+//! Contract: `read`, `put_order`
 //! - `read` gives the block and the order exactly if the check text spells them, memory aside. Else it gives the first line that can't be
 //!   in its place.
+//! - `put_order` writes exactly the lines of an order.
 #![tactic(auto)]
 
 mod cuts;

@@ -1,7 +1,9 @@
 //! Blocks and orders in the lines of a check text.
 
 ghost use Rattle.std.specs.Prelude.{◌≡◌, Some};
-ghost use Rattle.block_text.specs.Spelling.{exit_text, name_of_exit, targets_text};
+ghost use Rattle.block_text.specs.Spelling.{exit_text, insts_text, name_of_exit, order_text, targets_text};
+ghost use Rattle.text.specs.Shown.{shown_text};
+ghost use Rattle.text.specs.Written.{Writes};
 
 use crate::ExitName;
 use mblock::{Exit, Order};
@@ -89,7 +91,9 @@ impl fmt::Display for ExitLine {
 }
 
 /// Writes instructions, each after a margin and before an end.
-pub fn put_insts(out: &mut Writer, insts: &[Plain], margin: &str, end: &str) {
+pub fn put_insts(out: &mut Writer, insts: &[Plain], margin: &str, end: &str)
+    ensures { Writes out.old (shown_text (insts_text margin.now end.now insts.now)) out.new }
+{
     for inst in insts {
         out.text(margin);
         out.put(inst);
@@ -98,7 +102,9 @@ pub fn put_insts(out: &mut Writer, insts: &[Plain], margin: &str, end: &str) {
 }
 
 /// Writes an order: its instructions, its exit and its slot.
-pub fn put_order(out: &mut Writer, order: &Order, margin: &str, end: &str) {
+pub fn put_order(out: &mut Writer, order: &Order, margin: &str, end: &str)
+    ensures { Writes out.old (shown_text (order_text margin.now end.now order.now)) out.new }
+{
     put_insts(out, order.insts(), margin, end);
     out.text(margin);
     out.put(&ExitLine(order.exit()));

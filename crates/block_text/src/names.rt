@@ -1,8 +1,8 @@
 //! Names of instructions and exits.
-ghost use Rattle.std.specs.Prelude.{◌≡◌, ℕ, List, IfSome, Some};
+ghost use Rattle.std.specs.Prelude.{◌≡◌, ℕ, List, IfSome, Some, bytes_eq};
 ghost use Rattle.mips_isa.specs.Texts.{mnemonic_text};
 ghost use Rattle.mips_isa.specs.declared.text.Mnemonic.{Mnemonic};
-ghost use Rattle.block_text.specs.Named.{first_named};
+ghost use Rattle.std.specs.List.{find};
 ghost use Rattle.block_text.specs.Spelling.{exit_name_text};
 ghost use Rattle.block_text.specs.declared.names.ExitName.{ExitName};
 
@@ -63,14 +63,9 @@ const MNEMONICS: &[Mnemonic] = &[
 
 /// Returns the first of some things that the word names.
 fn first_named<N: Named>(all: &[N], word: &[u8]) -> Option<N>
-    ensures { result ≡ first_named N.text word.now all.now }
+    ensures { result ≡ find (λ n. bytes_eq word.now (N.text n)) all.now }
 {
-    for n in all {
-        if word == n.word().as_bytes() {
-            return Some(*n);
-        }
-    }
-    None
+    all.iter().copied().find(|n| word == n.word().as_bytes())
 }
 
 /// Returns the mnemonic that the word is.
