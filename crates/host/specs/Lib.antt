@@ -4,3 +4,4 @@ pub mod Requests
 pub mod Hosts
 pub mod OneFile
 pub mod WrongWords
+pub mod Places

@@ -1,9 +1,10 @@
 //! What the commands of the program share: files, errors, and where an error lies. `Disk` has the files of the system.
 //!
-//! Definitions: `specs/Texts.antt`, `specs/Requests.antt`, `specs/Hosts.antt`, `specs/OneFile.antt`.
-//! Contract: `answer_file`, `read_file`, `write_file`, `tell`, `tell_file`, `tell_placed`, `print_name`
+//! Definitions: `specs/Texts.antt`, `specs/Requests.antt`, `specs/Hosts.antt`, `specs/OneFile.antt`, `specs/Places.antt`.
+//! Contract: `answer_file`, `read_file`, `write_file`, `tell`, `tell_file`, `tell_placed`, `print_name`, `spot_of`, `line_offset`
 //! - A command over one file asks, prints and ends as its own definition says.
 //! - What is printed below an error steers no terminal.
+//! - A place in a text has the line and the column that its line feeds give it.
 //!
 //! | Tested | In |
 //! |---|---|

@@ -1,7 +1,8 @@
 //! Where a fault lies in its file, as editors and readers want it. Below the line `FILE:LINE:COLUMN: error: MESSAGE` is the line of the
 //! text around the place with a caret, and a line with a hint.
 
-ghost use Rattle.std.specs.Prelude.{◌≡◌, ◌<◌, ◌^◌, ◌≤◌, length, ◌++◌, All, IfOk, IfSome, Some, codes, decimal};
+ghost use Rattle.std.specs.Prelude.{◌≡◌, ◌<◌, ◌^◌, ◌≤◌, length, take, ◌++◌, All, IfOk, IfSome, Some, codes, decimal};
+ghost use Rattle.host.specs.Places.{bytes_in_line, column_at, line_at, line_start};
 ghost use Rattle.host.specs.Requests.{TellsBeside, TellsLine};
 ghost use Rattle.text.specs.Shown.{IsTold};
 
@@ -30,30 +31,43 @@ pub struct Spot {
     pub column: usize,
 }
 
-/// Returns where the line of the offset begins.
-fn line_start(text: &[u8], at: usize) -> usize {
-    let mut start = 0;
-    for (k, byte) in text.iter().take(at).enumerate() {
-        if *byte == b'\n' {
-            start = k + 1;
-        }
-    }
-    start
+/// Returns the bytes before an offset; the whole text, if it is past the end.
+fn before(text: &[u8], at: usize) -> &[u8]
+    ensures { result.now ≡ take at text.now }
+{
+    text.get(..at).unwrap_or(text)
+}
+
+/// Returns how many bytes of its line come before an offset.
+fn bytes_in_line(text: &[u8], at: usize) -> usize
+    ensures { result ≡ bytes_in_line text.now at }
+{
+    before(text, at)
+        .iter()
+        .rev()
+        .take_while(|byte| **byte != b'\n')
+        .count()
 }
 
 /// Returns the line and the column of an offset of the text, or of its end.
-pub fn spot_of(text: &[u8], at: usize) -> Spot {
-    let before = text.iter().take(at).filter(|byte| **byte == b'\n').count();
-    let column = at.saturating_sub(line_start(text, at));
+pub fn spot_of(text: &[u8], at: usize) -> Spot
+    ensures line { result.line ≡ line_at text.now at }
+    ensures column { result.column ≡ column_at text.now at }
+{
+    let line_feeds = before(text, at)
+        .iter()
+        .filter(|byte| **byte == b'\n')
+        .count();
     Spot {
-        line: before.saturating_add(1),
-        column: column.saturating_add(1),
+        line: line_feeds.saturating_add(1),
+        column: bytes_in_line(text, at).saturating_add(1),
     }
 }
 
 /// Returns where a line of the text begins, counted from 1; the text's length where it has no such line.
 pub fn line_offset(text: &[u8], line: u32) -> usize
-    ensures { result ≤ length text.now }
+    ensures exact { result ≡ line_start text.now line }
+    ensures within { result ≤ length text.now }
 {
     let mut ends = 1u32;
     for (k, byte) in text.iter().enumerate() {
@@ -104,7 +118,7 @@ fn quote_of(alloc: Global, text: &[u8], at: usize) -> Result<Vec<u8>, AllocError
     if at >= text.len() {
         return Ok(quote);
     }
-    let start = line_start(text, at);
+    let start = at.saturating_sub(bytes_in_line(text, at));
     let end = (at..text.len()).find(|k| text.get(*k) == Some(&b'\n'));
     let end = end.unwrap_or(text.len());
     // of a long line a part around the place is shown
@@ -239,7 +253,9 @@ struct AfterName {
 }
 
 fn after_name(text: &[u8], at: usize) -> AfterName
-    ensures { (result.line < 2 ^ 64) × (result.column < 2 ^ 64) }
+    ensures line { result.line ≡ line_at text.now at }
+    ensures column { result.column ≡ column_at text.now at }
+    ensures fit { (result.line < 2 ^ 64) × (result.column < 2 ^ 64) }
 {
     let Spot { line, column } = spot_of(text, at);
     AfterName { line, column }
