@@ -1,5 +1,5 @@
 -- Why a text has no image.
-use Rattle.std.specs.Prelude.{ℕ, ◌+◌, ◌*◌, ◌≤◌, max, List, [], ◌∷◌}
+use Rattle.std.specs.Prelude.{◌≢◌, ℕ, ◌+◌, ◌*◌, ◌≤◌, max, List, [], ◌∷◌}
 use Rattle.c_typed.specs.Trees.{TypedFunction, TypedProgram}
 use Rattle.c_types.specs.Typed.{SpellsTyped}
 use Rattle.rtl_lower.specs.Sizes.{HaveRoom, function_registers, function_blocks, function_insts}
@@ -60,3 +60,10 @@ abbrev pub IsBuildFault : List ℕ → (depth : ℕ) → BuildFault → Type 0
 IsBuildFault text depth (faults.Source fault) = IsSourceFault text fault
 IsBuildFault text depth (faults.Limit limit) = Exceeds text depth limit
 IsBuildFault text depth faults.NoMemory = IsFaultless text
+
+-- a limit comes at its stage: none of assembly before a unit is assembled, and none of selection before blocks are selected
+abbrev pub IsBeforeAssembly : BuildFault → Type 0
+IsBeforeAssembly fault = fault ≢ faults.Limit limits.Assembly
+
+abbrev pub IsBeforeSelection : BuildFault → Type 0
+IsBeforeSelection fault = (fault ≢ faults.Limit limits.Selection) × IsBeforeAssembly fault

@@ -1,5 +1,5 @@
 -- The two halves of a build, as its private functions see them: up to a unit, and from a scheduled unit on.
-use Rattle.std.specs.Prelude.{◌<◌, ◌≤◌, ◌*◌, ℕ, List, length, slice_index}
+use Rattle.std.specs.Prelude.{◌≡◌, ◌<◌, ◌≤◌, ◌*◌, ℕ, List, length, slice_index}
 use Rattle.runs.specs.Runs.{Outcome}
 use Rattle.c_typed.specs.Trees.{TypedProgram}
 use Rattle.c_typed.specs.Meaning.{source_run}
@@ -13,7 +13,7 @@ use Rattle.mips_asm.specs.Emitted.{IsWithin}
 use Rattle.mips_asm.specs.declared.limits.TheConstants.{FUNCTION_WORDS}
 use Rattle.runs.specs.Refines.{Refines, Same, AtLeast}
 use Rattle.driver.specs.BuildFaults.{blocks_counted}
-use Rattle.driver.specs.Builds.{IsBuildOf}
+use Rattle.driver.specs.Builds.{IsBuildOf, IsPlain}
 use Rattle.driver.specs.declared.build_command.builds.Built.{Built}
 use Rattle.driver.specs.declared.build_command.builds.BuildFault.{BuildFault}
 use Rattle.driver.specs.declared.build_command.builds.BuildFault.TheVariants as faults
@@ -41,3 +41,8 @@ IsUnwritten s (faults.Limit limits.Assembly) =
     IsScheduled s × ((IsWithin (slice_index s.unit.owner) s.orders → ⊥) × (FUNCTION_WORDS < 2052 * length s.orders))
 IsUnwritten s faults.NoMemory = Unit {0}
 IsUnwritten s _ = ⊥
+
+-- a build with each block in its own order says that it is too long only if it is
+abbrev pub IsTooLongPlain : (text : List ℕ) → (depth : ℕ) → BuildFault → Type 0
+IsTooLongPlain text depth fault = fault ≡ faults.Limit limits.Assembly
+    → (s : ScheduledParts) × IsPlain s × IsUnitOf text depth s.unit × (IsWithin (slice_index s.unit.owner) s.orders → ⊥)

@@ -8,7 +8,7 @@ use Rattle.mblock.specs.Units.{UnitParts}
 use Rattle.mblock.specs.UnitRuns.{unit_run}
 use Rattle.mips_machine.specs.UnitViews.{link_of}
 use Rattle.driver.specs.Halves.{IsUnitOf}
-use Rattle.driver.specs.BuildFaults.{IsBuildFault}
+use Rattle.driver.specs.BuildFaults.{IsBeforeAssembly, IsBeforeSelection, IsBuildFault}
 use Rattle.driver.specs.declared.build_command.builds.BuildFault.{BuildFault}
 use Rattle.driver.specs.Stages.{IsRtlOf}
 use Rattle.driver.specs.declared.levels.Below.{Below}
@@ -32,5 +32,5 @@ IsRunBelow belows.Rtl text depth steps o = IsRtlRun text depth steps o
 IsRunBelow belows.Blocks text depth steps o = IsBlocksRun text depth steps o
 
 abbrev pub IsFaultBelow : Below → (depth : ℕ) → (text : List ℕ) → BuildFault → Type 0
-IsFaultBelow belows.Rtl depth text fault = IsBuildFault text 1 fault
-IsFaultBelow belows.Blocks depth text fault = IsBuildFault text depth fault
+IsFaultBelow belows.Rtl depth text fault = IsBuildFault text 1 fault × IsBeforeSelection fault
+IsFaultBelow belows.Blocks depth text fault = IsBuildFault text depth fault × IsBeforeAssembly fault

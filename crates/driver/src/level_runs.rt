@@ -1,7 +1,7 @@
 //! The run of a C text at a level below C.
 ghost use Rattle.std.specs.Prelude.{◌≤◌, IfErr, IfOk};
 ghost use Rattle.runs.specs.Runs.{outcome_of};
-ghost use Rattle.driver.specs.BuildFaults.{IsBuildFault};
+ghost use Rattle.driver.specs.BuildFaults.{IsBeforeAssembly, IsBeforeSelection, IsBuildFault};
 ghost use Rattle.driver.specs.Levels.{IsBlocksRun, IsRtlRun};
 
 use crate::build_command::{BuildFault, unit_of};
@@ -15,6 +15,7 @@ use std::alloc::Global;
 pub fn interp_rtl(alloc: Global, text: &[u8], depth: u32, steps: u64) -> Result<Ran, BuildFault>
     ensures ran { IfOk result (λ r. IsRtlRun text.now depth steps (outcome_of r)) }
     ensures fault { IfErr result (IsBuildFault text.now 1) }
+    ensures stage { IfErr result IsBeforeSelection }
 {
     let rtl = rtl_of(alloc, text)?;
     Ok(run(alloc, &rtl, depth, steps)?)
@@ -26,6 +27,7 @@ pub fn interp_blocks(alloc: Global, text: &[u8], depth: u32, steps: u64) -> Resu
     requires { 1 ≤ depth }
     ensures ran { IfOk result (λ r. IsBlocksRun text.now depth steps (outcome_of r)) }
     ensures fault { IfErr result (IsBuildFault text.now depth) }
+    ensures stage { IfErr result IsBeforeAssembly }
 {
     let unit = unit_of(alloc, text, depth)?;
     Ok(run_unit(alloc, &unit, steps)?)

@@ -13,7 +13,7 @@ use Rattle.driver.specs.Follows.{FollowsText}
 use Rattle.driver.specs.Builds.{IsPlain}
 use Rattle.driver.specs.BuildCommand.{AnyOrder, IsBuiltAs}
 use Rattle.driver.specs.BuildFaults.{IsBuildFault}
-use Rattle.driver.specs.Halves.{IsUnitOf, IsWritten, IsUnwritten}
+use Rattle.driver.specs.Halves.{IsTooLongPlain, IsUnitOf, IsWritten, IsUnwritten}
 use Rattle.driver.proofs.build_command.Composed.{followed}
 
 -- the image runs as the unit, so many items a word
@@ -35,6 +35,10 @@ unwritten s same (faults.Limit limits.Assembly) h text of =
     record { program = of.program; spelled = of.spelled; beyond = λ fit. omega (arith, ap (λ (v : UnitParts). length v.blocks) same) }
 unwritten s same faults.NoMemory h text of = (of.program, of.spelled)
 unwritten s same _ h text of = absurd h
+
+pub too_long_plain : {text : List ℕ} {depth : ℕ} {u : UnitParts} (s : ScheduledParts) → s.unit ≡ u → IsPlain s → IsUnitOf text depth u
+    → (fault : BuildFault) → IsUnwritten s fault → IsTooLongPlain text depth fault
+too_long_plain s same plain of fault h is = let h = rw is at h in (s, plain, rw same of, h.1.0)
 
 -- a build with --plain and one without
 pub plain_as_asked : {depth : ℕ} {u : UnitParts} {s : ScheduledParts} → s.unit ≡ u → IsPlain s → (b : Built) → IsWritten s b

@@ -4,10 +4,10 @@ ghost use Rattle.c_types.specs.Shape.{program_of};
 ghost use Rattle.c_types.specs.Typed.{SpellsTyped};
 ghost use Rattle.driver.specs.Builds.{IsPlain, IsScheduledBuild};
 ghost use Rattle.driver.specs.Follows.{FollowsText};
-ghost use Rattle.driver.specs.BuildFaults.{IsBuildFault};
+ghost use Rattle.driver.specs.BuildFaults.{IsBeforeAssembly, IsBeforeSelection, IsBuildFault};
 ghost use Rattle.driver.specs.SourceFaults.{IsSourceFault};
 ghost use Rattle.driver.specs.Stages.{IsLowered};
-ghost use Rattle.driver.specs.Halves.{IsUnitOf, IsUnwritten, IsWritten};
+ghost use Rattle.driver.specs.Halves.{IsTooLongPlain, IsUnitOf, IsUnwritten, IsWritten};
 
 use c_front::read;
 use c_tree::Program;
@@ -96,6 +96,7 @@ pub fn typed_of(alloc: Global, text: &[u8]) -> Result<Typed, SourceFault>
 pub(crate) fn rtl_of_typed(alloc: Global, typed: &Typed) -> Result<Rtl, BuildFault>
     ensures rtl { IfOk result (IsLowered (program_of typed.now)) }
     ensures fault { IfErr result (λ f. (text : List ℕ) (depth : ℕ) → SpellsTyped text (program_of typed.now) → IsBuildFault text depth f) }
+    ensures stage { IfErr result IsBeforeSelection }
 {
     let lowered = match lower(alloc, typed) {
         Ok(rtl) => rtl,
@@ -111,6 +112,7 @@ pub(crate) fn unit_of_typed(alloc: Global, typed: &Typed, depth: u32) -> Result<
     requires { 1 ≤ depth }
     ensures unit { IfOk result (λ u. (text : List ℕ) → SpellsTyped text (program_of typed.now) → IsUnitOf text depth u) }
     ensures fault { IfErr result (λ f. (text : List ℕ) → SpellsTyped text (program_of typed.now) → IsBuildFault text depth f) }
+    ensures stage { IfErr result IsBeforeAssembly }
 {
     let rtl = match rtl_of_typed(alloc, typed) {
         Ok(rtl) => rtl,
@@ -128,6 +130,7 @@ pub fn unit_of(alloc: Global, text: &[u8], depth: u32) -> Result<Unit, BuildFaul
     requires { 1 ≤ depth }
     ensures unit { IfOk result (IsUnitOf text.now depth) }
     ensures fault { IfErr result (IsBuildFault text.now depth) }
+    ensures stage { IfErr result IsBeforeAssembly }
 {
     let typed = typed_of(alloc, text)?;
     unit_of_typed(alloc, &typed, depth)
@@ -158,6 +161,7 @@ pub fn build_plain(alloc: Global, text: &[u8], depth: u32) -> Result<Built, Buil
     ensures follows { IfOk result (λ b. FollowsText text.now depth 1 b.image.items) }
     ensures scheduled { IfOk result (IsScheduledBuild IsPlain) }
     ensures fault { IfErr result (IsBuildFault text.now depth) }
+    ensures too_long { IfErr result (IsTooLongPlain text.now depth) }
 {
     let unit = unit_of(alloc, text, depth)?;
     let scheduled = schedule_plain(alloc, &unit)?;
