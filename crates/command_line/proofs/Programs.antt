@@ -14,13 +14,15 @@ use Rattle.command_line.specs.declared.command.Command.{Command}
 
 module _ {F W E : Type 0} (by : Relations F W E) (old new : HostState F W E) (words : List Text) where
   -- it has its answer
-  pub answered_by : (Answers : Command → ℕ → List Request → List ℕ → Type 0) (status : ℕ) (command : Command) → IsCommand words command
+  pub answered_by : (Answers : Command → ℕ → List Request → List ℕ → List (List ℕ) → Type 0) (status : ℕ) (command : Command) → IsCommand words command
       → Does by old new (Answers command status) → Does by old new (IsAnswered Answers words status)
   answered_by Answers status command entered does = record {
     requests = does.requests;
     printed = does.printed;
+    told = does.told;
     asked = does.asked;
     took = does.took;
+    heard = does.heard;
     means = record { command = command; entered = entered; answered = does.means };
   }
 

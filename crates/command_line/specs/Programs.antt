@@ -11,15 +11,11 @@ use Rattle.command_line.specs.Commands.{IsCommand, mcc_app}
 use Rattle.command_line.specs.declared.command.Command.{Command}
 
 -- the words are a command, which has its answer
-pub record IsAnswered (Answers : Command → ℕ → List Request → List ℕ → Type 0) (words : List Text) (status : ℕ)
-    (requests : List Request) (printed : List ℕ) : Type 0 where
+pub record IsAnswered (Answers : Command → ℕ → List Request → List ℕ → List (List ℕ) → Type 0) (words : List Text) (status : ℕ)
+    (requests : List Request) (printed : List ℕ) (told : List (List ℕ)) : Type 0 where
   pub command : Command
   pub entered : IsCommand words command
-  pub answered : Answers command status requests printed
-
--- the words are a command, and this is told beside its answer
-abbrev pub IsRemark : (Command → ℕ → List (List ℕ) → Type 0) → List Text → (status : ℕ) → List (List ℕ) → Type 0
-IsRemark Remarks words status told = (command : Command) × IsCommand words command × Remarks command status told
+  pub answered : Answers command status requests printed told
 
 -- the help or the version is asked for, or the words are wrong, by one of these kinds of fault
 abbrev pub HasHelp : Kinds → Type 0

@@ -8,12 +8,12 @@ use Rattle.std.specs.List.{flat_map}
 use Rattle.clap.specs.Words.{HasKind, fault_of, kind_of, takes}
 use Rattle.clap.specs.declared.error.Error.{Error}
 use Rattle.clap.specs.declared.error.kind.ErrorKind.TheVariants.{OutOfMemory}
-use Rattle.host.specs.Requests.{Asks, Does, HostState, IsSent, LeavesOutput, Ran, Relations, StopsMidway, TellsBeside, TellsLine, WasRefused}
+use Rattle.host.specs.Requests.{Asks, Does, HostState, IsSent, LeavesOutput, Ran, Relations, StopsMidway, TellsLine, WasRefused}
 use Rattle.host.specs.Texts.{host_fault_text}
 use Rattle.host.specs.WrongWords.{IsFaultOfWords, IsHelp, IsMistake}
 use Rattle.host.specs.declared.fault.HostFault.{HostFault}
 use Rattle.host.proofs.Asked.{ran_stopped}
-use Rattle.driver.specs.Several.{BreaksOff, CheckedFile, ChecksAll, ChecksEach, IsTotals, faults_of, lines_of, said_status, status_of, told_of, totals_of, totals_text, worse}
+use Rattle.driver.specs.Several.{BreaksOff, CheckedFile, ChecksAll, ChecksEach, faults_of, lines_of, said_status, status_of, told_of, totals_of, totals_text, worse}
 use Rattle.driver.specs.declared.check_command.said.Said.{Said}
 use Rattle.driver.specs.declared.check_command.said.Said.TheVariants as says
 use Rattle.command_line.specs.Commands.{IsCommand, mcc_app}
@@ -42,23 +42,28 @@ no_faults a (file ∷ files) other = by file.said other (no_faults (worse a (sta
     by _ other none = absurd (other (fault_shows a (map status_of files)))
 
 module _ {F W E : Type 0} {by : Relations F W E} {old new : HostState F W E} {status : ℕ} (explain : Bool) (names : List (List ℕ)) where
-  -- several files that all have their lines, as an answer
-  each_answered : ChecksAll by old new explain names status → Does by old new (ChecksEach explain names status)
-  each_answered all = record {
-    requests = map (λ (f : CheckedFile). f.request) all.files;
-    printed = flat_map lines_of all.files;
-    asked = all.asked;
-    took = all.took;
-    means = (all.files, all.right, all.named, refl, refl, all.ends);
-  }
-
-  -- the totals alone are told if none has a fault
-  each_counted : ChecksAll by old new explain names status → status ≢ 1 → TellsBeside by.tells old.err (IsTotals explain names) new.err
-  each_counted all other =
+  -- several files that all have their lines, as an answer. The totals alone are told if none has a fault
+  each_answered : ChecksAll by old new explain names status → status ≢ 1 → Does by old new (ChecksEach explain names status)
+  each_answered all other =
       let none = no_faults 0 all.files (λ one. other (all.ends ∙ one)) in
       let same : old.err ≡ all.told.0 = rw none at all.told.1 in
-      let line = totals_text (length names) (totals_of all.files) ++ 10 ∷ [] in
-      (line ∷ [], (new.err, rw same all.told.2, refl), (all.files, all.right, all.named, refl))
+      record {
+        requests = map (λ (f : CheckedFile). f.request) all.files;
+        printed = flat_map lines_of all.files;
+        told = (totals_text (length names) (totals_of all.files) ++ 10 ∷ []) ∷ [];
+        asked = all.asked;
+        took = all.took;
+        heard = (new.err, rw same all.told.2, refl);
+        means = record {
+          files = all.files;
+          right = all.right;
+          named = all.named;
+          asked = refl;
+          prints = refl;
+          totals = refl;
+          ends = all.ends;
+        };
+      }
 
 stop : {F W E : Type 0} {by : Relations F W E} {old new : HostState F W E} {words : List (List ℕ)} (command : Command) → IsCommand words command
     → Asks by old new (Stops command) ⊎ StopsMidway by old new (Begins command)
@@ -84,9 +89,6 @@ module _ {F W E : Type 0} {by : Relations F W E} {old new : HostState F W E} {wo
     taken = λ _ is. (two is).2;
     answered = λ _ other. answered_by by old new words Answers status command entered (ran.answered other);
     sent = ran.sent;
-    beside = λ _ other.
-        let beside = ran.beside other in
-        (beside.0, beside.1, (command, entered, beside.2));
     stopped = λ one. stop command entered (ran.stopped one);
     wrong = λ is.
         let refused = two is in
@@ -111,7 +113,6 @@ module _ {F W E : Type 0} {by : Relations F W E} {old new : HostState F W E} {wo
     taken = λ is two. absurd (omega (arith, memory (refused is)));
     answered = λ is other. absurd (other (memory (refused is)));
     sent = λ one two. sent (omega arith);
-    beside = λ is other. absurd (other (memory (refused is)));
     stopped = λ one.
         let t = told one in
         inl (stopped_before by old new words Stops e t.0 same t.1 t.2 t.3 refused has);
@@ -135,11 +136,8 @@ module _ {F W E : Type 0} {by : Relations F W E} {old new : HostState F W E} {wo
       record {
         most = most;
         taken = λ _ two. absurd (other two);
-        answered = λ _ _. answered_by by old new words Answers status (CheckEach files explain) entered (each_answered explain names all.0);
+        answered = λ _ not. answered_by by old new words Answers status (CheckEach files explain) entered (each_answered explain names all.0 not);
         sent = λ _ _. all.1;
-        beside = λ _ not.
-            let told = each_counted explain names all.0 not in
-            (told.0, told.1, (CheckEach files explain, entered, told.2));
         stopped = λ one. inr (inl (record { files = files; explain = explain; entered = entered; checked = rw one at all.0; sent = all.1 }));
         wrong = λ two. absurd (other two);
         untaken = λ some. absurd (some none);

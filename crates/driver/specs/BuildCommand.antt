@@ -1,5 +1,5 @@
 -- What the command `build` asks of its files, prints, tells and ends by.
-use Rattle.std.specs.Prelude.{◌≡◌, ◌≢◌, ◌⊎◌, ℕ, ◌+◌, List, [], ◌∷◌, ◌++◌, All, Bool, true, false, codes, decimal, ⊤}
+use Rattle.std.specs.Prelude.{◌≡◌, ◌≢◌, ℕ, ◌+◌, List, [], ◌∷◌, ◌++◌, All, Bool, true, false, codes, decimal, ⊤}
 use Rattle.mblock.specs.Parts.{BlockParts, OrderParts}
 use Rattle.mblock.specs.declared.limits.TheConstants.{BLOCK_INSTS}
 use Rattle.image.specs.Texts.{counts_text}
@@ -46,14 +46,16 @@ abbrev pub one_name_text : List ℕ
 one_name_text = codes "error: SOURCE and IMAGE are one file\n\n  tip: give the image a name of its own, as in 'mcc build prog.c prog.image'\n\nFor more information, try '--help'.\n"
 
 module _ (b : AskedBuild) where
-  -- `mcc build SOURCE IMAGE`: SOURCE was read, and then IMAGE became the bytes of an image of its text
-  pub record Builds (status : ℕ) (requests : List Request) (printed : List ℕ) : Type 0 where
+  -- `mcc build SOURCE IMAGE`: SOURCE was read, and then IMAGE became the bytes of an image of its text. Warnings are told, which steer no
+  -- terminal
+  pub record Builds (status : ℕ) (requests : List Request) (printed : List ℕ) (told : List (List ℕ)) : Type 0 where
     pub text : List ℕ
     pub built : Built
     pub asked : requests ≡ Read b.source.now text ∷ (Written b.image.now built.image.items ∷ [])
     pub promised : IsBuiltAs text b.depth b.plain built
     pub line : printed ≡ built_text b.plain built
     pub ends : status ≡ 0
+    pub warned : All (All IsTold) told
 
   -- the same where it ended by a fault. IMAGE isn't touched but by the bytes of an image of the text, and nothing is printed before it was
   -- written
@@ -69,18 +71,15 @@ module _ (b : AskedBuild) where
         → StopsBuild silent refused (Read b.source.now text ∷ (Written b.image.now built.image.items ∷ []))
         (host_fault_text CannotWrite)
 
-  -- by its names: a build if they differ; else status 2, and nothing is asked or printed
-  pub data AnswersBuild (status : ℕ) (requests : List Request) (printed : List ℕ) : Type 0 where
-    apart : b.source.now ≢ b.image.now → Builds status requests printed → AnswersBuild status requests printed
-    one_name : b.source.now ≡ b.image.now → status ≡ 2 → requests ≡ [] → printed ≡ [] → AnswersBuild status requests printed
+  -- by its names: a build if they differ; else status 2, nothing is asked or printed, and the mistake is told
+  pub data AnswersBuild (status : ℕ) (requests : List Request) (printed : List ℕ) (told : List (List ℕ)) : Type 0 where
+    apart : b.source.now ≢ b.image.now → Builds status requests printed told → AnswersBuild status requests printed told
+    one_name : b.source.now ≡ b.image.now → status ≡ 2 → requests ≡ [] → printed ≡ [] → told ≡ one_name_text ∷ []
+        → AnswersBuild status requests printed told
 
   -- a build that ended by a fault has two names
   abbrev pub StopsApart : (silent refused : Type 0) → List Request → List ℕ → Type 0
   StopsApart silent refused requests told = (b.source.now ≢ b.image.now) × StopsBuild silent refused requests told
-
--- what is told with it: with a build warnings, which steer no terminal
-abbrev pub IsBuildRemark : (status : ℕ) → List (List ℕ) → Type 0
-IsBuildRemark status told = ((status ≢ 2) × All (All IsTold) told) ⊎ ((status ≡ 2) × (told ≡ one_name_text ∷ []))
 
 -- the command, for two names that differ, and for any two
 abbrev pub apart_meaning : AskedBuild → Meaning
@@ -88,7 +87,6 @@ apart_meaning b = record {
   Answers = Builds b;
   Stops = StopsBuild b;
   Begins = λ requests printed. ⊥;
-  Remarks = λ status told. All (All IsTold) told;
 }
 
 abbrev pub build_meaning : AskedBuild → Meaning
@@ -96,5 +94,4 @@ build_meaning b = record {
   Answers = AnswersBuild b;
   Stops = StopsApart b;
   Begins = λ requests printed. ⊥;
-  Remarks = IsBuildRemark;
 }

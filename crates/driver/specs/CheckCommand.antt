@@ -1,7 +1,6 @@
 -- What `mcc check` asks of its file, prints and ends by.
 use Rattle.std.specs.Prelude.{◌≡◌, ◌⊎◌, ℕ, List, [], ◌∷◌, ◌++◌, All, Bool, true, false}
 use Rattle.text.specs.Shown.{IsShown}
-use Rattle.host.specs.Requests.{IsNothing}
 use Rattle.host.specs.OneFile.{FileMeaning}
 use Rattle.host.specs.declared.fault.HostFault.{HostFault}
 use Rattle.host.specs.declared.fault.HostFault.TheVariants.{CannotWrite, NoMemory}
@@ -30,7 +29,7 @@ checking explain = record {
   Faults = IsCheckFault;
   Prints = PrintsAnswer explain;
   status_of = exit_status;
-  Remarks = λ status told. IsNothing told;
+  Remarks = λ text status told. told ≡ [];
   line = check_fault_text;
   Unprinted = IsUnprinted explain;
   streams = false;

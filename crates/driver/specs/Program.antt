@@ -9,24 +9,24 @@ use Rattle.image.specs.Texts.{image_fault_text}
 use Rattle.image.specs.Images.{IsImageFault}
 use Rattle.image.specs.declared.fault.ImageFault.{ImageFault}
 use Rattle.clap.specs.Words.{fault_of, takes}
-use Rattle.host.specs.Requests.{Asks, Does, HostState, IsNothing, IsSent, Meaning, Relations, Request, StopsMidway, TellsBeside}
+use Rattle.host.specs.Requests.{Asks, Does, HostState, IsSent, Meaning, Relations, Request, StopsMidway}
 use Rattle.host.specs.OneFile.{FileMeaning, IsRefused, file_meaning}
 use Rattle.text.specs.Shown.{IsShown}
 use Rattle.driver.specs.CheckCommand.{checking}
-use Rattle.driver.specs.Several.{BreaksOff, ChecksAll, ChecksEach, IsTotals}
+use Rattle.driver.specs.Several.{BreaksOff, ChecksAll, ChecksEach}
 use Rattle.driver.specs.SourceFaults.{IsFaultless}
 use Rattle.driver.specs.BuildCommand.{build_meaning}
 use Rattle.host.specs.declared.numbers.WordForm.{WordForm}
-use Rattle.driver.specs.RunCommand.{IsRunRemark, PrintsRun, running}
+use Rattle.driver.specs.RunCommand.{IsCountedRemark, IsRunRemark, PrintsRun, running}
 use Rattle.driver.specs.declared.run_command.remarks.Counted.TheVariants.{Steps}
 use Rattle.command_line.specs.Commands.{IsCommand, mcc_app}
-use Rattle.command_line.specs.Programs.{EndsUntaken, HasMistake, IsAnswered, IsRemark, IsStopped}
+use Rattle.command_line.specs.Programs.{EndsUntaken, HasMistake, IsAnswered, IsStopped}
 use Rattle.command_line.specs.declared.command.AskedBuild.{AskedBuild}
 use Rattle.command_line.specs.declared.command.AskedInterp.{AskedInterp}
 use Rattle.command_line.specs.declared.command.Command.{Command}
 use Rattle.command_line.specs.declared.command.Command.TheVariants.{Check, CheckEach, Interp, Build, Run, List as Listing, NoChoice, Show}
 use Rattle.driver.specs.Texts.{end_text, end_status, interp_fault_text, no_choice_text}
-use Rattle.driver.specs.Interps.{IsRun, IsInterpFault}
+use Rattle.driver.specs.Interps.{IsRun, IsInterpFault, IsStepCount}
 use Rattle.driver.specs.declared.source_runs.InterpFault.{InterpFault}
 use Rattle.driver.specs.BuildTexts.{build_fault_text}
 use Rattle.driver.specs.declared.build_command.builds.BuildFault.{BuildFault}
@@ -46,7 +46,7 @@ interpreting depth steps form counts = record {
   Faults = IsInterpFault;
   Prints = PrintsRun end_text form;
   status_of = λ o. end_status o.end;
-  Remarks = IsRunRemark Steps steps counts;
+  Remarks = λ text. IsCountedRemark Steps steps counts (IsStepCount text depth steps);
   line = interp_fault_text;
   Unprinted = IsRefused;
   streams = true;
@@ -59,7 +59,7 @@ interpreting_below below asked = record {
   Faults = IsFaultBelow below asked.depth;
   Prints = PrintsRun end_text asked.form;
   status_of = λ o. end_status o.end;
-  Remarks = IsRunRemark Steps asked.steps false;
+  Remarks = λ text. IsRunRemark (record { unit = Steps; count = 0; most = asked.steps; counts = false });
   line = build_fault_text;
   Unprinted = IsRefused;
   streams = false;
@@ -83,7 +83,7 @@ listing_image asm = record {
   Faults = IsImageFault;
   Prints = λ page printed. printed ≡ page;
   status_of = λ _. 0;
-  Remarks = λ status told. IsNothing told;
+  Remarks = λ bytes status told. told ≡ [];
   line = image_fault_text;
   Unprinted = IsRefused;
   streams = false;
@@ -97,20 +97,19 @@ showing = record {
   Faults = IsStagesFault;
   Prints = λ page printed. printed ≡ page;
   status_of = λ _. 0;
-  Remarks = λ status told. IsNothing told;
+  Remarks = λ text status told. told ≡ [];
   line = stages_fault_text;
   Unprinted = IsRefused;
   streams = false;
 }
 
--- what each command means; what is told beside the answer of a check of several files are its totals
+-- what each command means
 abbrev pub meaning_of : Command → Meaning
 meaning_of (Check file explain) = file_meaning (checking explain) file.now
 meaning_of (CheckEach files explain) = record {
   Answers = ChecksEach explain (map (λ s. s.now) files.items);
   Stops = BreaksOff explain (map (λ s. s.now) files.items);
   Begins = λ requests printed. ⊥;
-  Remarks = λ status told. IsTotals explain (map (λ s. s.now) files.items) told;
 }
 meaning_of (Interp asked) = interp_meaning asked.level asked
 meaning_of (Build asked) = build_meaning asked
@@ -118,13 +117,12 @@ meaning_of (Run asked) = file_meaning (running asked.steps asked.form asked.coun
 meaning_of (Listing image asm) = file_meaning (listing_image asm) image.now
 meaning_of (Show source stage function block dot) = file_meaning showing source.now
 meaning_of (NoChoice choice value) = record {
-  Answers = λ status requests printed. ⊥;
+  Answers = λ status requests printed told. ⊥;
   Stops = λ silent refused requests told. (requests ≡ []) × (told ≡ no_choice_text) × silent;
   Begins = λ requests printed. ⊥;
-  Remarks = λ status told. IsNothing told;
 }
 
-abbrev pub Answers : Command → (status : ℕ) → List Request → List ℕ → Type 0
+abbrev pub Answers : Command → (status : ℕ) → List Request → (printed : List ℕ) → (told : List (List ℕ)) → Type 0
 Answers command = (meaning_of command).Answers
 
 abbrev pub Stops : Command → (silent refused : Type 0) → List Request → List ℕ → Type 0
@@ -132,9 +130,6 @@ Stops command = (meaning_of command).Stops
 
 abbrev pub Begins : Command → List Request → List ℕ → Type 0
 Begins command = (meaning_of command).Begins
-
-abbrev pub Remarks : Command → (status : ℕ) → List (List ℕ) → Type 0
-Remarks command = (meaning_of command).Remarks
 
 -- the words are such a command
 abbrev pub IsBegun : List (List ℕ) → List Request → List ℕ → Type 0
@@ -155,11 +150,10 @@ pub record HasFaultyFile {F W E : Type 0} (by : Relations F W E) (old new : Host
 -- what the program did with its words, by its status
 pub record RanWords {F W E : Type 0} (by : Relations F W E) (old new : HostState F W E) (words : List (List ℕ)) (status : ℕ) : Type 0 where
   pub most : status ≤ 4
-  -- what their command asks and prints, if clap takes them and there was no fault; only a build onto its source ends by 2 then
+  -- what their command asks, prints and tells, if clap takes them and there was no fault; only a build onto its source ends by 2 then
   pub taken : takes mcc_app words ≡ true → status ≡ 2 → NamesOneFile words
   pub answered : takes mcc_app words ≡ true → status ≢ 1 → Does by old new (IsAnswered Answers words status)
   pub sent : status ≢ 1 → status ≢ 2 → IsSent by.sends new.out
-  pub beside : takes mcc_app words ≡ true → status ≢ 1 → TellsBeside by.tells old.err (IsRemark Remarks words status) new.err
   -- a fault of the command, or a check of several files one of which has a fault, or memory that was refused to a run
   pub stopped : status ≡ 1 → Asks by old new (IsStopped Stops words) ⊎ HasFaultyFile by old new words ⊎ StopsMidway by old new (IsBegun words)
   -- wrong words, and words that ask for help

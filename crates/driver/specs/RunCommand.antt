@@ -12,9 +12,10 @@ use Rattle.host.specs.declared.numbers.WordForm.{WordForm}
 use Rattle.host.specs.OneFile.{FileMeaning, IsRefused, TookPrint}
 use Rattle.text.specs.Shown.{IsShown}
 use Rattle.driver.specs.RunTexts.{ending_text, ending_status}
-use Rattle.driver.specs.ImageRuns.{IsImageRun}
+use Rattle.driver.specs.ImageRuns.{IsImageRun, IsWordCount}
 use Rattle.driver.specs.declared.run_command.portions.Cut.{Cut}
 use Rattle.driver.specs.declared.run_command.portions.Cut.TheVariants.{Unprinted, NoMemory}
+use Rattle.driver.specs.declared.run_command.remarks.Spent.{Spent}
 use Rattle.driver.specs.declared.run_command.remarks.Counted.{Counted}
 use Rattle.driver.specs.declared.run_command.remarks.Counted.TheVariants.{Words, Steps}
 
@@ -59,16 +60,19 @@ abbrev pub more_text : Counted → (most : ℕ) → List ℕ
 more_text unit most = codes "more: the " ++ (decimal most ++ (codes " " ++ (unit_text unit
     ++ (codes " of --steps are used up" ++ more_hint most))))
 
--- what is told with a run: its count if asked for, the option that goes on after `more`, and why it is stuck or wrong. All is lines of
--- printable ASCII
-pub record IsRunRemark (unit : Counted) (most : ℕ) (counts : Bool) (status : ℕ) (told : List (List ℕ)) : Type 0 where
-  pub count : ℕ
-  pub within : count ≤ most
+-- what is told with a run: how many ran, if that is asked for, the option that goes on after `more`, and why it is stuck or wrong. All is
+-- lines of printable ASCII
+pub record IsRunRemark (spent : Spent) (status : ℕ) (told : List (List ℕ)) : Type 0 where
   pub reason : List (List ℕ)
-  pub all : told ≡ (if counts then (count_text unit count ++ 10 ∷ []) ∷ [] else [])
-      ++ ((if status == 4 then (more_text unit most ++ 10 ∷ []) ∷ [] else []) ++ reason)
+  pub all : told ≡ (if spent.counts then (count_text spent.unit spent.count ++ 10 ∷ []) ∷ [] else [])
+      ++ ((if status == 4 then (more_text spent.unit spent.most ++ 10 ∷ []) ∷ [] else []) ++ reason)
   pub shown : All (All IsShown) reason
   pub only : (status ≡ 3 → ⊥) → reason ≡ []
+
+-- the same where this counts what ran
+abbrev pub IsCountedRemark : (unit : Counted) → (most : ℕ) → (counts : Bool) → (HasRun : ℕ → Type 0) → (status : ℕ) → List (List ℕ) → Type 0
+IsCountedRemark unit most counts HasRun status told = (count : ℕ) × HasRun count
+    × IsRunRemark (record { unit = unit; count = count; most = most; counts = counts }) status told
 
 -- the command
 abbrev pub running : (steps : ℕ) → WordForm → (counts : Bool) → FileMeaning MachineOutcome ImageFault
@@ -77,7 +81,7 @@ running steps form counts = record {
   Faults = IsImageFault;
   Prints = PrintsRun ending_text form;
   status_of = λ o. ending_status o.end;
-  Remarks = IsRunRemark Words steps counts;
+  Remarks = λ bytes. IsCountedRemark Words steps counts (IsWordCount bytes steps);
   line = image_fault_text;
   Unprinted = IsRefused;
   streams = true;

@@ -113,15 +113,16 @@ pub record ChecksAll {F W E : Type 0} (by : Relations F W E) (old new : HostStat
       × by.tells mid (totals_text (length names) (totals_of files) ++ 10 ∷ []) new.err
   pub ends : status ≡ fold worse 0 (map status_of files)
 
--- the same as an answer: what was asked and printed
-abbrev pub ChecksEach : (explain : Bool) → (names : List (List ℕ)) → (status : ℕ) → List Request → List ℕ → Type 0
-ChecksEach explain names status requests printed = (files : List CheckedFile) × All (IsRight explain) files × (map (λ file. file.name) files ≡ names)
-    × (requests ≡ map (λ file. file.request) files) × (printed ≡ flat_map lines_of files) × (status ≡ fold worse 0 (map status_of files))
-
--- what is told with answers alone: the totals
-abbrev pub IsTotals : (explain : Bool) → (names : List (List ℕ)) → List (List ℕ) → Type 0
-IsTotals explain names told = (files : List CheckedFile) × All (IsRight explain) files × (map (λ file. file.name) files ≡ names)
-    × (told ≡ (totals_text (length names) (totals_of files) ++ 10 ∷ []) ∷ [])
+-- the same as an answer, where no file has a fault: what was asked and printed, and the totals that were told
+pub record ChecksEach (explain : Bool) (names : List (List ℕ)) (status : ℕ) (requests : List Request) (printed : List ℕ)
+    (told : List (List ℕ)) : Type 0 where
+  pub files : List CheckedFile
+  pub right : All (IsRight explain) files
+  pub named : map (λ file. file.name) files ≡ names
+  pub asked : requests ≡ map (λ file. file.request) files
+  pub prints : printed ≡ flat_map lines_of files
+  pub totals : told ≡ (totals_text (length names) (totals_of files) ++ 10 ∷ []) ∷ []
+  pub ends : status ≡ fold worse 0 (map status_of files)
 
 -- the first line that was told
 abbrev pub first_told : List (List ℕ) → List ℕ

@@ -48,7 +48,7 @@ impl FileCommand for ImageCommand {
 
     ghost most = { 0 };
 
-    ghost knows = { λ s _. ⊤ };
+    ghost knows = { λ s bytes _. ⊤ };
 
     fn run<W: Output>(
         &self,

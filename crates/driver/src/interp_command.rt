@@ -40,6 +40,7 @@ pub struct InterpCommand<'s> {
 
 impl FileCommand for InterpCommand<'_> {
     ghost use Rattle.runs.specs.Runs.{Outcome};
+    ghost use Rattle.driver.specs.Interps.{IsStepCount};
 
     type End = Finish<End>;
 
@@ -53,7 +54,7 @@ impl FileCommand for InterpCommand<'_> {
 
     ghost most = { 4 };
 
-    ghost knows = { λ s f. f.count ≤ s.steps };
+    ghost knows = { λ s text f. IsStepCount text s.depth s.steps f.count };
 
     fn run<W: Output>(
         &self,

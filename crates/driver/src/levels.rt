@@ -65,7 +65,7 @@ impl FileCommand for BelowCommand<'_> {
 
     ghost most = { 4 };
 
-    ghost knows = { λ s end. ⊤ };
+    ghost knows = { λ s text end. ⊤ };
 
     fn run<W: Output>(
         &self,

@@ -4,12 +4,12 @@
 //! Contract: `build`, `build_one`, `build_plain`, `one_build`, `run_image`, `interp`, `list_image`, `mcc`
 //! - The headline: if `build` is Ok, the source spells a program and the bytes are an image that follows it (`follows`).
 //! - Image and report are of one scheduled unit (`scheduled`). An error is the source's own, or a limit that its counts allow.
-//! - `run_image` and `interp` give exactly the run, or the error. `list_image` gives exactly the listing.
-//! - For arguments that clap accepts, `mcc` asks of its files, prints and ends as the command's own call may.
+//! - `run_image` and `interp` give exactly the run, or the error. `interp --at` runs some RTL or unit with the source's runs.
+//! - `list_image` gives exactly the listing. With arguments that clap accepts, `mcc` asks, prints and ends as the command's own call may.
 //!
 //! | Tested | In |
 //! |---|---|
-//! | what images and `--count` print; failing files and streams; refused memory | tests/builds, test_calls, `.ci/refuse` |
+//! | what images print; failing files and streams; refused memory | tests/builds, test_calls, `.ci/refuse` |
 #![tactic(auto)]
 
 mod build_command;

@@ -1,7 +1,7 @@
 //! The command that shows what becomes of a program, stage by stage.
 
 ghost use Rattle.std.specs.Prelude.{ℕ, List, IfErr, IfOk, Some, ⊤};
-ghost use Rattle.driver.specs.BuildFaults.{IsBuildFault};
+ghost use Rattle.driver.specs.BuildFaults.{IsBeforeSelection, IsBuildFault};
 ghost use Rattle.driver.specs.SourceFaults.{IsFaultless};
 ghost use Rattle.driver.specs.Program.{showing};
 ghost use Rattle.driver.specs.Stages.{IsRtlOf, IsStagesFault, stages_fault_text};
@@ -53,6 +53,7 @@ impl Error for StagesFault {}
 pub(crate) fn rtl_of(alloc: Global, text: &[u8]) -> Result<Rtl, BuildFault>
     ensures spelled { IfOk result (IsRtlOf text.now) }
     ensures fault { IfErr result (IsBuildFault text.now 1) }
+    ensures stage { IfErr result IsBeforeSelection }
 {
     let typed = typed_of(alloc, text)?;
     rtl_of_typed(alloc, &typed)
@@ -170,7 +171,7 @@ impl FileCommand for ShowCommand<'_> {
 
     ghost most = { 0 };
 
-    ghost knows = { λ s _. ⊤ };
+    ghost knows = { λ s text _. ⊤ };
 
     fn run<W: Output>(
         &self,

@@ -1,7 +1,7 @@
 -- What was asked, along equations of the bytes, and what a command did that ended by a fault.
 use Rattle.std.proofs.Common.{◌≡◌, ◌≢◌, ◌⊎◌, ℕ, List, [], ◌∷◌, refl, sym, subst}
 use Rattle.std.specs.List.{FoldsTo}
-use Rattle.host.specs.Requests.{Asks, Does, HostState, IsSent, Meaning, Ran, Relations, Request, StopsMidway, TellsBeside, TellsLine, WasRefused}
+use Rattle.host.specs.Requests.{Asks, Does, HostState, IsSent, Meaning, Ran, Relations, Request, StopsMidway, TellsLine, WasRefused}
 use Rattle.host.specs.Requests.Request.{Read}
 use Rattle.host.specs.Hosts.{RanOn, state_of}
 use Rattle.host.specs.declared.host.Host.{Host}
@@ -28,11 +28,10 @@ module _ {F W E : Type 0} (by : Relations F W E) (old new : HostState F W E) whe
 
   -- it has its answer
   pub ran_answered : (m : Meaning) (status : ℕ) → status ≢ 1 → Does by old new (m.Answers status) → IsSent by.sends new.out
-      → TellsBeside by.tells old.err (m.Remarks status) new.err → Ran by old new m status
-  ran_answered m status other does sent beside = record {
+      → Ran by old new m status
+  ran_answered m status other does sent = record {
     answered = λ _. does;
     sent = λ _ _. sent;
-    beside = λ _. beside;
     stopped = λ one. absurd (other one);
   }
 
@@ -42,7 +41,6 @@ module _ {F W E : Type 0} (by : Relations F W E) (old new : HostState F W E) whe
   ran_stopped m status one stopped = record {
     answered = λ other. absurd (other one);
     sent = λ other _. absurd (other one);
-    beside = λ other. absurd (other one);
     stopped = λ _. stopped;
   }
 

@@ -19,13 +19,13 @@ abbrev pub TookPrint : Option (List ℕ) → Option (List ℕ) → (List ℕ →
 TookPrint old new Prints = (printed : List ℕ) × Appends old new printed × Prints printed
 
 -- A command's own parts: the answers and faults that bytes may have, what an answer prints, its status, and a fault's line.
--- Besides: what is told after a status, why an answer may be left unprinted, and whether it prints while it works.
+-- Besides: what is told beside the bytes' answer, by its status, why an answer may be left unprinted, and whether it prints while it works.
 pub record FileMeaning (A B : Type 0) : Type 1 where
   pub Answers : List ℕ → A → Type 0
   pub Faults : List ℕ → B → Type 0
   pub Prints : A → List ℕ → Type 0
   pub status_of : A → ℕ
-  pub Remarks : (status : ℕ) → List (List ℕ) → Type 0
+  pub Remarks : (bytes : List ℕ) → (status : ℕ) → List (List ℕ) → Type 0
   pub line : B → List ℕ
   pub Unprinted : HostFault → Type 0
   pub streams : Bool
@@ -53,14 +53,15 @@ module _ {A B : Type 0} (m : FileMeaning A B) where
       ((answer : A) × m.Answers bytes answer) × m.Unprinted fault × LeavesOutput fault silent refused
   BreaksBy bytes old new silent refused Midway = (m.streams ≡ true) × TookPrint old new (IsBeginning bytes)
 
-  -- once it has an answer: the file was read and nothing else asked, and what is printed and the status are the answer's
-  pub record AnswersFile (file : List ℕ) (status : ℕ) (requests : List Request) (printed : List ℕ) : Type 0 where
+  -- once it has an answer: the file was read and nothing else asked, and what is printed, the status and what is told are the answer's
+  pub record AnswersFile (file : List ℕ) (status : ℕ) (requests : List Request) (printed : List ℕ) (told : List (List ℕ)) : Type 0 where
     pub bytes : List ℕ
     pub asked : requests ≡ Read file bytes ∷ []
     pub answer : A
     pub answered : m.Answers bytes answer
     pub prints : m.Prints answer printed
     pub ends : status ≡ m.status_of answer
+    pub remarks : m.Remarks bytes status told
 
   -- the same where it ended by a fault, with the text that was told. The fault is of the file or of its bytes, and standard output is as
   -- it was, or of what an answer was printed on
@@ -81,4 +82,4 @@ module _ {A B : Type 0} (m : FileMeaning A B) where
 
   -- the command
   abbrev pub file_meaning : (file : List ℕ) → Meaning
-  file_meaning file = record { Answers = AnswersFile file; Stops = StopsFile file; Begins = BeginsFile file; Remarks = m.Remarks }
+  file_meaning file = record { Answers = AnswersFile file; Stops = StopsFile file; Begins = BeginsFile file }

@@ -48,13 +48,17 @@ relations answers contents sends refuses tells =
 abbrev pub host_of : {F W E : Type 0} → F → W → E → HostState F W E
 host_of files out err = record { files = files; out = out; err = err }
 
--- what a command did: all that it asked of its files, in order, and the bytes that its standard output took. They are as Means says
-pub record Does {F W E : Type 0} (by : Relations F W E) (old new : HostState F W E) (Means : List Request → List ℕ → Type 0) : Type 0 where
+-- what a command did: all that it asked of its files, in order, the bytes that its standard output took, and what its standard error was
+-- told. They are as Means says
+pub record Does {F W E : Type 0} (by : Relations F W E) (old new : HostState F W E)
+    (Means : List Request → (printed : List ℕ) → (told : List (List ℕ)) → Type 0) : Type 0 where
   pub requests : List Request
   pub printed : List ℕ
+  pub told : List (List ℕ)
   pub asked : FoldsTo by.answers old.files requests new.files
   pub took : Appends (by.contents old.out) (by.contents new.out) printed
-  pub means : Means requests printed
+  pub heard : FoldsTo by.tells old.err told new.err
+  pub means : Means requests printed told
 
 -- standard output was asked to send on what it had taken, and nothing was written after that
 abbrev pub IsSent : {W : Type 0} → (W → W → Type 0) → W → Type 0
@@ -78,10 +82,6 @@ TellsLine tells old text new = (more : List (List ℕ)) × FoldsTo tells old ((t
 abbrev pub TellsBeside : {E : Type 0} → (E → List ℕ → E → Type 0) → E → (List (List ℕ) → Type 0) → E → Type 0
 TellsBeside tells old Remarks new = (told : List (List ℕ)) × FoldsTo tells old told new × Remarks told
 
--- nothing
-abbrev pub IsNothing : List (List ℕ) → Type 0
-IsNothing told = told ≡ []
-
 -- what a command did that ended by a fault: all that it asked of its files, and the line that it told. They are as Means says. That also
 -- says whether standard output is as it was, or refused what it was asked last
 pub record Asks {F W E : Type 0} (by : Relations F W E) (old new : HostState F W E)
@@ -102,17 +102,15 @@ pub record StopsMidway {F W E : Type 0} (by : Relations F W E) (old new : HostSt
   pub told : TellsLine by.tells old.err (host_fault_text host_faults.NoMemory) new.err
   pub begins : Begins requests printed
 
--- a command: what it asks and prints with an answer, and what it asks and tells where it ends by a fault. It also says what was asked and
--- printed where memory was refused once it had begun, and what it tells with an answer
+-- a command: what it asks, prints and tells with an answer, and what it asks and tells where it ends by a fault. It also says what was
+-- asked and printed where memory was refused once it had begun
 pub record Meaning : Type 1 where
-  pub Answers : (status : ℕ) → List Request → List ℕ → Type 0
+  pub Answers : (status : ℕ) → List Request → (printed : List ℕ) → (told : List (List ℕ)) → Type 0
   pub Stops : (silent refused : Type 0) → List Request → List ℕ → Type 0
   pub Begins : List Request → List ℕ → Type 0
-  pub Remarks : (status : ℕ) → List (List ℕ) → Type 0
 
 -- a command did as it means, by its status. Status 1 is that of a fault, and 2 that of wrong words, where nothing need be sent on
 pub record Ran {F W E : Type 0} (by : Relations F W E) (old new : HostState F W E) (m : Meaning) (status : ℕ) : Type 0 where
   pub answered : status ≢ 1 → Does by old new (m.Answers status)
   pub sent : status ≢ 1 → status ≢ 2 → IsSent by.sends new.out
-  pub beside : status ≢ 1 → TellsBeside by.tells old.err (m.Remarks status) new.err
   pub stopped : status ≡ 1 → Asks by old new m.Stops ⊎ StopsMidway by old new m.Begins

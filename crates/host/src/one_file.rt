@@ -60,8 +60,8 @@ pub trait FileCommand {
 
     ghost most: { ℕ };
 
-    // what is known of an end
-    ghost knows: { Self → Self.End → Type 0 };
+    // what is known of an end by these bytes
+    ghost knows: { Self → List ℕ → Self.End → Type 0 };
 
     /// Works out the answer to these bytes, and prints and sends it; what is known of it.
     fn run<W: Output>(
@@ -71,7 +71,7 @@ pub trait FileCommand {
         out: &mut W,
     ) -> Result<Self::End, Broken<Self::Fault>>
         ensures took { IfOk result (λ e. TookAnswer (meaning self.now) bytes.now (W.contents out.old) (W.contents out.new) (end_status e)) }
-        ensures knows { IfOk result (knows self.now) }
+        ensures knows { IfOk result (knows self.now bytes.now) }
         ensures sent { OnOk result (IsSent W.sends out.new) }
         ensures broken { IfErr result (BreaksBy (meaning self.now) bytes.now (W.contents out.old) (W.contents out.new) (out.new ≡ out.old)
             (WasRefused W.refuses out.new)) };
@@ -84,8 +84,8 @@ pub trait FileCommand {
 
     /// Tells what is said beside an answer that was printed.
     fn remark<E: Complaints>(&self, alloc: Global, bytes: &[u8], end: &Self::End, err: &mut E)
-        requires { knows self.now end.now }
-        ensures { TellsBeside E.tells err.old ((meaning self.now).Remarks (end_status end.now)) err.new };
+        requires { knows self.now bytes.now end.now }
+        ensures { TellsBeside E.tells err.old ((meaning self.now).Remarks bytes.now (end_status end.now)) err.new };
 
     /// Tells the line of a fault, and below it what is known of it.
     fn tell<E: Complaints>(&self, alloc: Global, of: &BadFile<'_, Self::Fault>, err: &mut E) -> u8

@@ -1,5 +1,5 @@
 //! What `mcc` writes to its two streams.
-ghost use Rattle.std.specs.Prelude.{◌≡◌, ◌≢◌, ◌≤◌, List, map, true};
+ghost use Rattle.std.specs.Prelude.{◌≡◌, ◌≢◌, ◌≤◌, ℕ, List, map, true};
 ghost use Rattle.std.specs.List.{FoldsTo};
 ghost use Rattle.clap.specs.Words.{takes};
 ghost use Rattle.command_line.specs.Commands.{mcc_app};
@@ -40,8 +40,8 @@ pub fn told_by<T: Threads + Wait + Sync>(
 ) -> Written
     ensures most { result.status ≤ 4 }
     ensures answered { takes mcc_app (map (λ s. s.now) words.entry.now) ≡ true → result.status ≢ 1
-        → (requests : List Request) × FoldsTo Answers files.old requests files.new
-        × IsAnswered AnswersCommand (map (λ s. s.now) words.entry.now) result.status requests result.out.items }
+        → (requests : List Request) × (told : List (List ℕ)) × FoldsTo Answers files.old requests files.new
+        × IsAnswered AnswersCommand (map (λ s. s.now) words.entry.now) result.status requests result.out.items told }
 {
     let mut out = Vec::new(alloc);
     let mut err = Vec::new(alloc);

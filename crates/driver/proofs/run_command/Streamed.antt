@@ -1,10 +1,11 @@
 -- A run whose portions are printed one after another.
-use Rattle.std.proofs.Common.{◌≡◌, ℕ, ◌+◌, ◌-◌, ◌<◌, ◌≤◌, ◌++◌, List, [], Option, None, refl, sym, ap, ◌∙◌, arith, inl, inr, ◌⊎◌, append_assoc}
+use Rattle.std.proofs.Common.{◌≡◌, ℕ, ◌+◌, ◌-◌, ◌<◌, ◌≤◌, ◌≢◌, ◌++◌, List, [], Option, Some, None, refl, sym, ap, ◌∙◌, arith, inl, inr, ◌⊎◌, append_assoc}
 use Rattle.std.proofs.lemmas.Grind.{flat_map-append}
 use Rattle.std.proofs.KnownBytes.{Appends-nil, Appends-trans}
+use Rattle.std.specs.Prelude.{IfSome}
 use Rattle.std.specs.Io.KnownBytes.{Appends}
 use Rattle.runs.specs.Runs.{RunOutcome}
-use Rattle.runs.specs.Portions.{IsEnough, WentOn, after_output, behind}
+use Rattle.runs.specs.Portions.{IsCount, WentOn, after_output, behind}
 use Rattle.runs.specs.declared.ran.Advance.{Advance}
 use Rattle.host.specs.declared.numbers.WordForm.{WordForm}
 use Rattle.host.specs.OneFile.{TookPrint}
@@ -104,13 +105,22 @@ module _ {S E : Type 0} {comes_to : S → ℕ → RunOutcome E} {more : E} {form
         pub last_end : last ≡ (comes_to old most).end
         last_end = sym (ap (λ (o : RunOutcome E). o.end) whole)
 
-        pub enough : IsEnough (comes_to old) more most (most - left_behind)
-        enough =
+        -- where the run would go on, nothing is left
+        all_ran : (end : Option E) → IfSome end (λ e. e ≢ more) → end ≡ advance.end → (end ≡ None → left_behind ≡ 0) → last ≡ more
+            → left_behind ≡ 0
+        all_ran None other is none goes = none refl
+        all_ran (Some e) other is none goes = absurd (other (ap (λ (o : RunOutcome E). o.end) (rw (sym is) at at 0 (inl refl)) ∙ goes))
+
+        pub counted : (advance.end ≡ None → left_behind ≡ 0) → IsCount (comes_to old) more most (most - left_behind)
+        counted all =
             let none : most - left_behind ≡ most - left_behind + 0 = omega arith in
             record {
               within = omega arith;
               same = ap (comes_to old) none ∙ outcome_at 0 (inl refl) ∙ sym whole;
               before = ran_before;
+              all = λ goes.
+                  let left = all_ran advance.end went.ended refl all (last_end ∙ goes) in
+                  omega (arith, left);
             }
 
         pub all_printed : (out' : Option (List ℕ)) (line : List ℕ) → Appends out out' (words_in form written ++ line)

@@ -132,7 +132,7 @@ impl FileCommand for CheckCommand {
 
     ghost most = { 3 };
 
-    ghost knows = { λ s answer. ⊤ };
+    ghost knows = { λ s text answer. ⊤ };
 
     fn run<W: Output>(
         &self,

@@ -52,6 +52,7 @@ pub struct RunCommand {
 
 impl FileCommand for RunCommand {
     ghost use Rattle.mips_code.specs.Machines.{MachineOutcome};
+    ghost use Rattle.driver.specs.ImageRuns.{IsWordCount};
 
     type End = RunEnd;
 
@@ -65,7 +66,7 @@ impl FileCommand for RunCommand {
 
     ghost most = { 4 };
 
-    ghost knows = { λ s e. e.count ≤ s.steps };
+    ghost knows = { λ s bytes e. IsWordCount bytes s.steps e.count };
 
     fn run<W: Output>(
         &self,

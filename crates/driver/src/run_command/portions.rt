@@ -1,10 +1,10 @@
 //! A run in portions: what a portion wrote is printed and sent on before the next one begins.
 
-ghost use Rattle.std.specs.Prelude.{◌≡◌, ◌<◌, ℕ, List, [], ◌∷◌, ◌++◌, None, IfErr, IfOk, MatchOption, OnErr, OnOk};
+ghost use Rattle.std.specs.Prelude.{◌≡◌, ◌<◌, ℕ, List, [], ◌∷◌, ◌++◌, None, IfErr, IfOk, IfSome, MatchOption, OnErr, OnOk};
 ghost use Rattle.std.specs.Io.KnownBytes.{Appends};
 ghost use Rattle.host.specs.Requests.{IsSent, WasRefused};
 ghost use Rattle.runs.specs.Runs.{RunOutcome};
-ghost use Rattle.runs.specs.Portions.{IsEnough, WentOn, after_output};
+ghost use Rattle.runs.specs.Portions.{IsCount, WentOn, after_output};
 ghost use Rattle.driver.specs.RunCommand.{CutsOff, IsLast, words_in};
 
 use host::{FormedWord, Output, WordForm};
@@ -114,7 +114,8 @@ fn put_last<R: Resumable, W: Output>(
 
 /// Returns how a run ends behind a portion, if it does: as the portion says, or, where nothing is left, as one that would go on.
 fn end_of<R: Resumable>(run: &R, end: Option<R::End>, left: u64) -> Option<R::End>
-    ensures { MatchOption result ((end ≡ None) × (0 < left)) (IsLast R.comes_to run.now end left) }
+    ensures last { MatchOption result ((end ≡ None) × (0 < left)) (IsLast R.comes_to run.now end left) }
+    ensures all { IfSome result (λ _. end ≡ None → left ≡ 0) }
 {
     match end {
         Some(end) => Some(end),
@@ -135,7 +136,7 @@ pub fn stream<R: Resumable, W: Output>(
     ensures took { IfOk result (λ f. Appends (W.contents out.old) (W.contents out.new)
         (words_in form (R.comes_to run.old most).output ++ (R.end_text f.end ++ 10 ∷ []))) }
     ensures end { IfOk result (λ f. f.end ≡ (R.comes_to run.old most).end) }
-    ensures count { IfOk result (λ f. IsEnough (R.comes_to run.old) R.more most f.count) }
+    ensures count { IfOk result (λ f. IsCount (R.comes_to run.old) R.more most f.count) }
     ensures sent { OnOk result (IsSent W.sends out.new) }
     ensures cut { IfErr result (CutsOff form (R.comes_to run.old most).output (W.contents out.old) (W.contents out.new)
         (WasRefused W.refuses out.new)) }

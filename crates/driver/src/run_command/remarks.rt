@@ -1,6 +1,6 @@
 //! What is told beside a run: how much ran, which option goes on, and why it is stuck or wrong.
 
-ghost use Rattle.std.specs.Prelude.{◌≡◌, ◌≤◌, [], ◌∷◌, ◌++◌, ◌==◌, All, Some, if◌then◌else◌};
+ghost use Rattle.std.specs.Prelude.{◌≡◌, [], ◌∷◌, ◌++◌, ◌==◌, All, Some, if◌then◌else◌};
 ghost use Rattle.driver.specs.RunCommand.{IsRunRemark, count_text, more_hint, more_text, unit_text};
 ghost use Rattle.host.specs.Requests.{TellsBeside};
 ghost use Rattle.text.specs.Shown.{IsShown};
@@ -107,8 +107,7 @@ fn tell_reason<E: Complaints>(err: &mut E, status: u8, page: Option<Page>)
 
 /// Tells what stands beside a run that ended by this status: `page` is why it is stuck or wrong.
 pub fn tell_run<E: Complaints>(err: &mut E, spent: Spent, status: u8, page: Option<Page>)
-    requires { spent.count ≤ spent.most }
-    ensures { TellsBeside E.tells err.old (IsRunRemark spent.unit spent.most spent.counts status) err.new }
+    ensures { TellsBeside E.tells err.old (IsRunRemark spent status) err.new }
 {
     tell_count(err, spent);
     tell_more(err, spent, status);

@@ -26,6 +26,8 @@ returns-in-Ok-run-clause-ran g c =
             printed = took.took.0;
             asked = asked_once answers _ _ (Read c.args.file.now bytes) (read_as answers _ _ _ _ bytes c.as_slice-bytes.ensures.value c.in-Ok.ensures.asked);
             took = took.took.1;
+            told = c.remark.ensures.0;
+            heard = c.remark.ensures.1;
             means = record {
               bytes = bytes;
               asked = refl;
@@ -33,10 +35,10 @@ returns-in-Ok-run-clause-ran g c =
               answered = took.answered;
               prints = took.took.2;
               ends = rw c.status_of.ensures.status took.ends;
+              remarks = rw c.status_of.ensures.status c.remark.ensures.2;
             };
           })
-          c.in-Ok-run.ensures.sent
-          (rw c.status_of.ensures.status c.remark.ensures);
+          c.in-Ok-run.ensures.sent;
     }
 
 pub returns-in-Err-Faulty-clause-ran : goal.returns-in-Err-Faulty-clause-ran

@@ -52,7 +52,9 @@ returns-in-Ok-print_built-clause-ran g c =
       requests = Read c.args.asked.now.source.now text ∷ (Written c.args.asked.now.image.now built.image.items ∷ []);
       printed = built_text c.args.asked.now.plain built;
       asked = (c.read_file.new.files, read_as g.F.Files.answers _ _ _ _ text c.as_slice.ensures.value c.in-Ok.ensures.asked, (_, written, refl));
+      told = c.tell_warnings.ensures.0;
       took = c.in-Ok-print_built.ensures.line;
+      heard = c.tell_warnings.ensures.1;
       means = record {
         text = text;
         built = built;
@@ -60,10 +62,10 @@ returns-in-Ok-print_built-clause-ran g c =
         promised = c.in-Ok-built_with_warnings.ensures.built;
         line = refl;
         ends = refl;
+        warned = c.tell_warnings.ensures.2;
       };
     })
-    c.in-Ok-print_built.ensures.sent
-    c.tell_warnings.ensures)
+    c.in-Ok-print_built.ensures.sent)
 
 pub returns-clause-ran : goal.returns-clause-ran
 returns-clause-ran g c =

@@ -9,21 +9,20 @@ use Rattle.driver.proofs.build_command.build_commands.build_file.Goals as goal
 
 -- a build whose image has a name of its own is a build of any two names
 apart_ran : {F W E : Type 0} {by : Relations F W E} {old new : HostState F W E} {status : ℕ} (b : AskedBuild) → b.source.now ≢ b.image.now
-    → status ≢ 2 → Ran by old new (apart_meaning b) status → Ran by old new (build_meaning b) status
-apart_ran b differ right ran = record {
+    → Ran by old new (apart_meaning b) status → Ran by old new (build_meaning b) status
+apart_ran b differ ran = record {
   answered = λ other.
       let does = ran.answered other in
       record {
         requests = does.requests;
         printed = does.printed;
+        told = does.told;
         asked = does.asked;
         took = does.took;
+        heard = does.heard;
         means = apart differ does.means;
       };
   sent = ran.sent;
-  beside = λ other.
-      let beside = ran.beside other in
-      (beside.0, beside.1, inl (right, beside.2));
   stopped = λ one. elim (ran.stopped one) [
     | inl asks ↦
         inl (record { requests = asks.requests; text = asks.text; asked = asks.asked; told = asks.told; means = (differ, asks.means) })
@@ -39,16 +38,17 @@ returns-then-eq-clause-ran g c =
       answered = λ other. record {
         requests = [];
         printed = [];
+        told = one_name_text ∷ [];
         asked = refl;
         took = Appends-nil (g.W.Write.contents c.args.host.now.out.now);
-        means = one_name same refl refl refl;
+        heard = (_, c.text.ensures, refl);
+        means = one_name same refl refl refl refl;
       };
       sent = λ one two. absurd (two refl);
-      beside = λ other. (one_name_text ∷ [], (_, c.text.ensures, refl), inr (refl, refl));
       stopped = λ one. absurd (omega arith);
     })
 
 pub returns-clause-ran : goal.returns-clause-ran
 returns-clause-ran g c =
     let ran = c.build_apart.ensures.ran in
-    record { ran = apart_ran c.args.asked.now (search rules) (λ two. omega (arith, c.build_apart.ensures.most)) ran.ran; same = ran.same }
+    record { ran = apart_ran c.args.asked.now (search rules) ran.ran; same = ran.same }

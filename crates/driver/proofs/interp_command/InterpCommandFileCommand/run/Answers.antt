@@ -1,10 +1,15 @@
-use Rattle.std.proofs.Common.{ℕ, List, [], ◌∷◌, ◌++◌, refl}
+use Rattle.std.proofs.Common.{◌≡◌, ℕ, List, [], ◌∷◌, ◌++◌, refl, ap, subst}
+use Rattle.runs.specs.Runs.{outcome}
+use Rattle.runs.specs.Portions.{IsCount}
+use Rattle.runs.specs.declared.ran.End.TheVariants.{More}
+use Rattle.c_run.specs.Portions.{comes_to, state_of}
+use Rattle.c_run.specs.declared.portions.UnderWay.{UnderWay}
 use Rattle.c_types.specs.Shape.{program_of}
 use Rattle.c_types.specs.Typed.{SpellsTyped}
 use Rattle.c_typed.specs.Trees.{TypedProgram}
-use Rattle.c_typed.specs.Meaning.{source_run}
+use Rattle.c_typed.specs.Meaning.{Run, source_run, source_start, source_steps}
 use Rattle.driver.specs.RunCommand.{words_in}
-use Rattle.driver.specs.Interps.{IsRun}
+use Rattle.driver.specs.Interps.{IsRun, IsStepCount}
 use Rattle.driver.specs.Texts.{end_text}
 use Rattle.driver.proofs.run_command.Streamed.{lines_on}
 use Rattle.driver.proofs.interp_command.InterpCommandFileCommand.run.Goals as goal
@@ -40,3 +45,18 @@ returns-clause-broken g c =
         },
       ),
     )
+
+counted : (text : List ℕ) (depth steps count : ℕ) (p : TypedProgram) (m : UnderWay) → SpellsTyped text p → state_of m ≡ source_start p
+    → program_of m.program.now ≡ p → m.depth ≡ depth → IsCount (comes_to m) More steps count → IsStepCount text depth steps count
+counted text depth steps count p m spelled start program same h = (
+  p,
+  spelled,
+  subst (λ (d : ℕ). IsCount (λ n. outcome (source_steps p d n (source_start p))) More steps count) same
+      (subst (λ (q : TypedProgram). IsCount (λ n. outcome (source_steps q m.depth n (source_start p))) More steps count) program
+      (subst (λ (s : Run). IsCount (λ n. outcome (source_steps (program_of m.program.now) m.depth n s)) More steps count) start h)),
+)
+
+pub returns-in-Ok-stream-clause-knows : goal.returns-in-Ok-stream-clause-knows
+returns-in-Ok-stream-clause-knows g c =
+    counted _ _ _ _ (program_of c.in-Ok.typed) c.in-Ok-begin.running c.in-Ok.ensures.typed c.in-Ok-begin.ensures.start
+    (ap program_of c.in-Ok-begin.ensures.program) c.in-Ok-begin.ensures.depth c.in-Ok-stream.ensures.count

@@ -11,8 +11,6 @@ returns g c =
       count.0 ++ (more.0 ++ reason.0),
       folds_on tells _ _ _ count.0 (more.0 ++ reason.0) count.1 (folds_on tells _ _ _ more.0 reason.0 more.1 reason.1),
       record {
-        count = c.args.spent.count;
-        within = c.requires;
         reason = reason.0;
         all = rw (count.2, more.2);
         shown = reason.2.0;
