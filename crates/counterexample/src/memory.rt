@@ -1,5 +1,5 @@
 //! Memory: what fills it at the start, and the stores since.
-ghost use Rattle.std.specs.Prelude.{◌≡◌, IfOk, IfSome, is_some, true};
+ghost use Rattle.std.specs.Prelude.{◌≡◌, IfOk, IfSome, is_some, true, false};
 ghost use Rattle.mips_isa.specs.States.{is_open, load_at, store_at};
 ghost use Rattle.counterexample.specs.Memories.{everywhere, bytes_of, byte_behind};
 
@@ -72,6 +72,7 @@ impl Memory {
     pub fn store(&mut self, width: Width, address: u32, word: u32) -> Result<bool, AllocError>
         ensures open { IfOk result (λ b. b ≡ is_open width everywhere address) }
         ensures bytes { IfOk result (λ b. b ≡ true → bytes_of self.new ≡ store_at width everywhere (bytes_of self.old) address word) }
+        ensures closed { IfOk result (λ b. b ≡ false → bytes_of self.new ≡ bytes_of self.old) }
         ensures filling { self.new.filling ≡ self.old.filling }
     {
         if matches!(width, Width::Word) && address % 4 != 0 {

@@ -1,5 +1,5 @@
 //! Registers, HI, LO and memory, and what one action does to them.
-ghost use Rattle.std.specs.Prelude.{◌≡◌, true, IfOk, IfSome, is_some};
+ghost use Rattle.std.specs.Prelude.{◌≡◌, true, IfOk, IfSome, is_some, None, false};
 ghost use Rattle.words.specs.Operators.{op_value};
 ghost use Rattle.mips_isa.specs.States.{read, put};
 ghost use Rattle.mips_isa.specs.Actions.{operand, address, is_safe, state_after};
@@ -83,6 +83,7 @@ impl Registers {
         ensures safe { IfOk result (λ r. is_some r ≡ is_safe action (state_of self.old)) }
         ensures state { IfOk result (λ r. IfSome r (λ load. state_of self.new ≡ shown_state action (state_of self.old))) }
         ensures load { IfOk result (λ r. IfSome r (λ load. pending_in load ≡ pending_of action (state_of self.old))) }
+        ensures stays { IfOk result (λ r. r ≡ None → state_of self.new ≡ state_of self.old) }
         ensures filling { self.new.memory.filling ≡ self.old.memory.filling }
     {
         match action {
@@ -147,6 +148,7 @@ impl Registers {
     pub fn act(&mut self, action: Action) -> Result<bool, AllocError>
         ensures safe { IfOk result (λ b. b ≡ is_safe action (state_of self.old)) }
         ensures state { IfOk result (λ b. b ≡ true → state_of self.new ≡ state_after action (state_of self.old)) }
+        ensures stays { IfOk result (λ b. b ≡ false → state_of self.new ≡ state_of self.old) }
         ensures filling { self.new.memory.filling ≡ self.old.memory.filling }
     {
         let Some(load) = self.perform(action)? else {

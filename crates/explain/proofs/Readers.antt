@@ -1,12 +1,14 @@
 -- What a pass that ran a block has seen, and that a reader goes on.
-use Rattle.std.proofs.Common.{◌≡◌, ℕ, List, [], ◌∷◌, ◌++◌, Option, Result, Ok, All, sym, subst}
-use Rattle.std.specs.Prelude.{IfOk}
+use Rattle.std.proofs.Common.{◌≡◌, ℕ, List, [], ◌∷◌, ◌++◌, Option, Result, Ok, Err, All, sym, subst, arith}
+use Rattle.std.specs.Prelude.{IfOk, IfSome}
+use Rattle.std.specs.Result.{result_ok}
+use Rattle.std.proofs.lemmas.Option.{get_or_from_slice_get}
 use Rattle.std.specs.declared.alloc.AllocError.{AllocError}
 use Rattle.std.specs.Option.{option_to_list}
 use Rattle.std.proofs.lemmas.List.Elements.{All-append, All-cons, All-nil, All-pop, All-weaker, Contains-get_or}
 use Rattle.sym_terms.specs.Trees.{Tree}
 use Rattle.sym_terms.specs.Labels.{label_coding}
-use Rattle.term_table.specs.Passes.{PassState}
+use Rattle.term_table.specs.Passes.{InRange, Opened, PassState, TableState, new_pass}
 use Rattle.term_table.specs.Trees.{Extends}
 use Rattle.term_table.proofs.TermCallers.{still_seen_terms}
 use Rattle.sym_exec.specs.MipsTerms.{HasSeen, HaveSeen}
@@ -77,3 +79,10 @@ pub seen_run : (p : PassState) (r : Result (Result SymState TableFull) AllocErro
     → IfOk r (λ run. IfOk run (λ s. StandsFor p s.places s.exit s.guards.items c)) → IfOk r (λ run. IfOk run (IsSeenState p))
 seen_run p (Ok (Ok s)) c h = seen_state p s c h
 seen_run p _ c h = tt
+
+-- a table that was opened with room for so many terms
+pub room_of : {E : Type 0} (r : Result (TableState × PassState) E) (terms heads : ℕ)
+    → IfOk r (λ t. InRange 1 terms heads × Opened 1 terms heads t.0 (t.1 ∷ []))
+    → IfSome (result_ok r) (λ t. (t.0.nodes ≡ terms) × (t.1 ≡ new_pass t.0 0))
+room_of (Ok t) terms heads h = (h.1.nodes_are, get_or_from_slice_get (t.1 ∷ []) 0 (new_pass t.0 0) t.1 (h.1.each 0 (omega arith)))
+room_of (Err e) terms heads h = tt

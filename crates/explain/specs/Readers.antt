@@ -7,6 +7,13 @@ use Rattle.sym_exec.specs.declared.state.Guard.{Guard}
 use Rattle.sym_exec.specs.declared.state.Guard.TheVariants.{Address, Division}
 use Rattle.sym_exec.specs.declared.state.SymState.{SymState}
 use Rattle.explain.specs.declared.terms.Open.{Open}
+use Rattle.explain.specs.declared.terms.Room.{Room}
+use Rattle.explain.specs.declared.terms.Room.TheVariants.{Few, Many}
+
+-- how many terms a table has room for
+abbrev pub room_terms : Room → ℕ
+room_terms Few = 4096
+room_terms Many = 65536
 
 abbrev pub guard_tickets : Guard → List ℕ
 guard_tickets (Address w t) = t ∷ []

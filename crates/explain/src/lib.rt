@@ -12,6 +12,7 @@
 
 mod left;
 mod line;
+mod loaded;
 mod operands;
 mod term;
 mod terms;

@@ -5,15 +5,11 @@ ghost use Rattle.text.specs.Shown.{IsPrintableExplanation};
 
 use crate::operands::{NO_LABELS, NO_NUMBER, say_hint_of_operands};
 use block_text::{ExitName, cut, exit_named, first_line, mnemonic_named};
+use mblock::{BLOCK_INSTS, ORDER_INSTS};
 use mips_isa::Mnemonic;
 use std::alloc::{AllocError, Global};
 use std::str;
 use text::{Explanation, Said};
-
-/// The most instructions of a block, and of an order (docs/FORMATS.md).
-const BLOCK: usize = 512;
-
-const ORDER: usize = 2048;
 
 /// The most bytes of a word that are shown.
 const SHOWN: usize = 63;
@@ -254,8 +250,8 @@ fn say_line(said: &mut Said, stage: Stage, line: &[u8]) {
         );
     }
     match stage {
-        Stage::InBlock(before) => say_inside(said, line, before, BLOCK, "a block"),
-        Stage::InOrder(before) => say_inside(said, line, before, ORDER, "an order"),
+        Stage::InBlock(before) => say_inside(said, line, before, BLOCK_INSTS, "a block"),
+        Stage::InOrder(before) => say_inside(said, line, before, ORDER_INSTS, "an order"),
         Stage::Slot => match line.strip_prefix(b"slot ") {
             Some(inst) => say_slot(said, inst),
             None => say_expected(said, stage, line),

@@ -73,10 +73,15 @@ fn say_hint_of_operand(said: &mut Said, operand: &[u8]) -> bool {
     false
 }
 
-/// Returns the first operand, as commas, parentheses and brackets part them, and what follows it.
+/// Reports whether a byte parts operands: a comma, a parenthesis or a bracket.
+fn parts(byte: &u8) -> bool {
+    matches!(*byte, b',' | b'(' | b')' | b'[' | b']')
+}
+
+/// Returns the first operand, and what follows it.
 fn first_operand<'t>(operands: &'t [u8]) -> (&'t [u8], &'t [u8]) {
     for (k, byte) in operands.iter().enumerate() {
-        if matches!(byte, b',' | b'(' | b')' | b'[' | b']') {
+        if parts(byte) {
             return (&operands[..k], &operands[k + 1..]);
         }
     }
@@ -92,32 +97,6 @@ fn is_unknown(operand: &[u8]) -> bool {
         }
         _ => false,
     }
-}
-
-/// Reports whether one of the operands has a register's sign and is none.
-fn has_unknown(operands: &[u8]) -> bool {
-    let mut rest = operands;
-    for _ in 0..operands.len() {
-        let (operand, others) = first_operand(rest);
-        if is_unknown(operand) {
-            return true;
-        }
-        rest = others;
-    }
-    false
-}
-
-/// Says what is wrong with the first operand that an assembler takes. Reports whether it said something.
-fn say_hint_of_names(said: &mut Said, operands: &[u8]) -> bool {
-    let mut rest = operands;
-    for _ in 0..operands.len() {
-        let (operand, others) = first_operand(rest);
-        if say_hint_of_operand(said, operand) {
-            return true;
-        }
-        rest = others;
-    }
-    false
 }
 
 /// Returns what is wrong with the blanks of operands that have some.
@@ -227,11 +206,13 @@ pub(crate) fn say_hint_of_operands(said: &mut Said, line: &[u8], form: &str, ran
         return;
     };
     let operands = halves.after;
-    if has_unknown(operands) {
+    if operands.split(|byte| parts(byte)).any(is_unknown) {
         return said.hint(NO_NUMBER);
     }
-    if say_hint_of_names(said, operands) {
-        return;
+    for operand in operands.split(|byte| parts(byte)) {
+        if say_hint_of_operand(said, operand) {
+            return;
+        }
     }
     if operands.contains(&b' ') {
         return said.hint(hint_of_blanks(operands));

@@ -1,10 +1,10 @@
 //! The terms of what a block or an order leaves, read out of a table.
 
-ghost use Rattle.std.specs.Prelude.{All, IfOk, IfSome, OnOk};
-ghost use Rattle.term_table.specs.Passes.{IsOf, PassState};
+ghost use Rattle.std.specs.Prelude.{◌≡◌, All, IfOk, IfSome, OnOk};
+ghost use Rattle.term_table.specs.Passes.{IsOf, PassState, new_pass};
 ghost use Rattle.sym_exec.specs.MipsTerms.{HasSeen, HaveSeen};
 ghost use Rattle.sym_exec.specs.Standing.{tickets_of};
-ghost use Rattle.explain.specs.Readers.{IsReader, IsSeenState, guard_tickets};
+ghost use Rattle.explain.specs.Readers.{IsReader, IsSeenState, guard_tickets, room_terms};
 
 use mblock::{Block, Order};
 use mips_isa::NonzeroReg;
@@ -62,24 +62,24 @@ pub enum Room {
     Many,
 }
 
-/// Returns a table of some room.
-fn tables(alloc: Global, room: Room) -> Option<(TermTable, Vec<Pass>)>
-    ensures { IfSome result (λ t. All (IsOf t.0) t.1.items) }
-{
-    let (nodes, heads) = match room {
-        Room::Few => (4096, 64),
-        Room::Many => (65536, 1024),
-    };
-    TermTable::open(alloc, 1, nodes, heads).ok()
+impl Room {
+    fn terms(self) -> u64
+        ensures { result ≡ room_terms self }
+    {
+        match self {
+            Room::Few => 4096,
+            Room::Many => 65536,
+        }
+    }
 }
 
 /// Returns a table for one pass, and its pass; none if memory runs out.
 pub fn table_of(alloc: Global, room: Room) -> Option<(TermTable, Pass)>
-    ensures { IfSome result (λ t. IsOf t.0 t.1) }
+    ensures own { IfSome result (λ t. IsOf t.0 t.1) }
+    ensures room { IfSome result (λ t. (t.0.nodes ≡ room_terms room) × (t.1 ≡ new_pass t.0 0)) }
 {
-    let (table, mut passes) = tables(alloc, room)?;
-    let pass = passes.pop()?;
-    Some((table, pass))
+    let terms = room.terms();
+    TermTable::open_one(alloc, terms, terms / 64).ok()
 }
 
 /// Returns the tickets of the terms that an exit reads.

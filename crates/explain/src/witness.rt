@@ -1,8 +1,7 @@
 //! A start that refutes an order, as lines.
 
-use counterexample::{
-    Departs, Difference, Left, Start, Witness, find_start, loaded_words, run_block, run_order,
-};
+use crate::loaded::loaded_words;
+use counterexample::{Departs, Difference, Left, Start, Witness, find_start, run_block, run_order};
 use mblock::{Block, Exit, Order};
 use mips_isa::{NonzeroReg, Plain, WordDigits};
 use std::alloc::{AllocError, Global};

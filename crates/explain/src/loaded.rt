@@ -1,7 +1,6 @@
 //! Which words of memory runs from a start load.
 
-use crate::registers::Registers;
-use crate::start::Start;
+use counterexample::{Registers, Start};
 use mblock::{Block, Order};
 use mips_isa::{Action, Plain};
 use std::alloc::{AllocError, Global};
@@ -15,7 +14,7 @@ fn put_loaded(
     for inst in insts {
         let action = inst.action();
         if let Action::Loads { base, offset, .. } = action {
-            let address = registers.address(base, offset);
+            let address = registers.read(base).wrapping_add(offset);
             let word = address - address % 4;
             if !words.contains(&word) {
                 words.push(word)?;
