@@ -43,25 +43,18 @@ fn word_index(address: u32) -> usize {
     (address.wrapping_sub(CODE_BASE) / 4) as usize
 }
 
-/// What a word is written as.
-#[derive(Clone, Copy)]
-enum Form {
-    Plain(Plain),
-    /// A branch or jump to a word of the code, or one that names no place.
-    Control(Control),
-    Word(u32),
-}
-
-/// Returns what a word of the code is written as, which has so many words.
-fn form_of(word: u32, address: u32, count: usize) -> Form {
-    match decode(word) {
-        Some(Inst::Plain(plain)) if !matches!(plain, Plain::Divide { .. }) => Form::Plain(plain),
-        Some(Inst::Control(control)) => match target_of(&control, address) {
-            Some(target) if target < CODE_BASE || word_index(target) >= count => Form::Word(word),
-            _ => Form::Control(control),
-        },
-        _ => Form::Word(word),
-    }
+/// Returns the instruction that a word of the code is written as, which has so many words. A division, and a branch or jump out of the
+/// code, is written as its number.
+fn written_as(word: u32, address: u32, count: usize) -> Option<Inst> {
+    let inst = decode(word)?;
+    let is_number = match &inst {
+        Inst::Plain(plain) => matches!(*plain, Plain::Divide { .. }),
+        Inst::Control(control) => matches!(
+            target_of(control, address),
+            Some(target) if target < CODE_BASE || word_index(target) >= count
+        ),
+    };
+    (!is_number).then_some(inst)
 }
 
 /// Returns which code words a branch or jump leads to.
@@ -69,7 +62,7 @@ fn targets(alloc: Global, code: &[u32]) -> Result<Vec<bool>, AllocError> {
     let mut marks = vec![in alloc; false; code.len()]?;
     let mut address = CODE_BASE;
     for word in code {
-        if let Form::Control(control) = form_of(*word, address, code.len())
+        if let Some(Inst::Control(control)) = written_as(*word, address, code.len())
             && let Some(target) = target_of(&control, address)
             && let Some(mark) = marks.get_mut(word_index(target))
         {
@@ -111,19 +104,20 @@ fn put_control(
 }
 
 /// Writes a word of the code. The word 0 is `sll $0,$0,0`, since SPIM on a bare machine knows no `nop`.
-fn put_form(
+fn put_word(
     alloc: Global,
     out: &mut Writer,
-    form: Form,
+    code: &[u32],
+    word: u32,
     address: u32,
     labels: &[Label<'_>],
 ) -> Result<(), AllocError> {
     out.text("    ");
-    match form {
-        Form::Plain(plain) if plain.is_nop() => out.text("sll $0,$0,0"),
-        Form::Plain(plain) => out.put(&plain),
-        Form::Control(control) => put_control(alloc, out, control, address, labels)?,
-        Form::Word(word) => out.put(&format_args!(".word 0x{}", WordDigits(word))),
+    match written_as(word, address, code.len()) {
+        Some(Inst::Plain(plain)) if plain.is_nop() => out.text("sll $0,$0,0"),
+        Some(Inst::Plain(plain)) => out.put(&plain),
+        Some(Inst::Control(control)) => put_control(alloc, out, control, address, labels)?,
+        None => out.put(&format_args!(".word 0x{}", WordDigits(word))),
     }
     out.text("\n");
     Ok(())
@@ -175,8 +169,7 @@ pub(crate) fn put_source(
             out.text("__start:\n");
         }
         put_name(out, labels, address, *is_target);
-        let form = form_of(*word, address, code.len());
-        put_form(alloc, out, form, address, labels)?;
+        put_word(alloc, out, code, *word, address, labels)?;
         address = address.wrapping_add(4);
     }
     put_data(out, image.bytes(), labels);

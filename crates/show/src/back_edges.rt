@@ -30,7 +30,6 @@ struct Walk<'a> {
     visits: Vec<Visit>,
     way: Vec<usize>,
     back: Vec<[bool; 2]>,
-    is_refused: bool,
 }
 
 impl<'a> Walk<'a> {
@@ -50,9 +49,9 @@ impl<'a> Walk<'a> {
     }
 
     /// Goes on to a new node.
-    fn enter(&mut self, node: usize) {
+    fn enter(&mut self, node: usize) -> Result<(), AllocError> {
         self.set(node, Visit::Open(0));
-        self.is_refused = self.is_refused || self.way.push(node).is_err();
+        Ok(self.way.push(node)?)
     }
 
     /// Marks an edge of a node as one that goes back.
@@ -65,13 +64,13 @@ impl<'a> Walk<'a> {
     }
 
     /// Goes on from the last node of the way: by its next edge, which leads to a new node or is marked where it goes back, or else back.
-    fn go_on(&mut self, node: usize) {
+    fn go_on(&mut self, node: usize) -> Result<(), AllocError> {
         match self.visit(node) {
             Visit::Open(edge) if edge < 2 => {
                 self.set(node, Visit::Open(edge + 1));
                 if let Some(to) = self.target(node, edge) {
                     match self.visit(to) {
-                        Visit::Unseen => self.enter(to),
+                        Visit::Unseen => self.enter(to)?,
                         Visit::Open(_) => self.mark(node, edge),
                         Visit::Done => {}
                     }
@@ -82,6 +81,7 @@ impl<'a> Walk<'a> {
                 self.way.pop();
             }
         }
+        Ok(())
     }
 }
 
@@ -92,22 +92,18 @@ pub(crate) fn back_edges(alloc: Global, nodes: &[Node]) -> Result<Vec<[bool; 2]>
         visits: vec![in alloc; Visit::Unseen; nodes.len()]?,
         way: Vec::new(alloc),
         back: vec![in alloc; [false; 2]; nodes.len()]?,
-        is_refused: false,
     };
     for root in 0..nodes.len() {
         if walk.visit(root) == Visit::Unseen {
-            walk.enter(root);
+            walk.enter(root)?;
         }
         // each node has two edges to take and is left once
         for _ in 0..nodes.len().saturating_mul(3) {
             let Some(node) = walk.way.last().copied() else {
                 break;
             };
-            walk.go_on(node);
+            walk.go_on(node)?;
         }
-    }
-    if walk.is_refused {
-        return Err(AllocError);
     }
     Ok(walk.back)
 }

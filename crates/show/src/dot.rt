@@ -6,27 +6,6 @@ use rtl::RExit;
 use std::alloc::{AllocError, Global};
 use text::Writer;
 
-/// Writes an edge to the block of a place, if there is one. One that goes back is bold, so that loops are seen.
-fn put_edge(
-    out: &mut Writer,
-    nodes: &[Node],
-    from: usize,
-    place: Option<usize>,
-    style: &str,
-    is_back: bool,
-) {
-    let bold = if is_back {
-        " penwidth=2 color=blue"
-    } else {
-        ""
-    };
-    if let Some(place) = place
-        && let Some(node) = nodes.get(place)
-    {
-        out.put(&format_args!("    b{from} -> b{}{style}{bold}];\n", node.number));
-    }
-}
-
 /// Returns the place of a block among a function's, the first of which has this number.
 fn place(block: BlockNumber, first: usize) -> Option<usize> {
     Some((block.number() as usize).saturating_sub(first))
@@ -54,7 +33,7 @@ pub(crate) fn rtl_places(exit: &RExit) -> Edges {
     }
 }
 
-/// Writes the blocks of a function, each with its edges: two are a branch's.
+/// Writes the blocks of a function, each with its edges: two are a branch's. One that goes back is bold, so that loops are seen.
 pub(crate) fn put_nodes(alloc: Global, out: &mut Writer, nodes: &[Node]) -> Result<(), AllocError> {
     let back = back_edges(alloc, nodes)?;
     for (node, back) in nodes.iter().zip(back.iter()) {
@@ -62,13 +41,25 @@ pub(crate) fn put_nodes(alloc: Global, out: &mut Writer, nodes: &[Node]) -> Resu
         out.put(&format_args!("    b{number} [label=\"block {number}\\l"));
         out.page(&node.lines);
         out.text("\"];\n");
-        let [first, second] = node.edges;
-        let (one, other) = match second {
-            Some(_) => (" [label=\"taken\"", " [label=\"else\" style=dashed"),
-            None => (" [style=solid", ""),
+        let styles = match node.edges[1] {
+            Some(_) => [" [label=\"taken\"", " [label=\"else\" style=dashed"],
+            None => [" [style=solid", ""],
         };
-        put_edge(out, nodes, number, first, one, back[0]);
-        put_edge(out, nodes, number, second, other, back[1]);
+        for k in 0..2usize {
+            if let Some(place) = node.edges[k]
+                && let Some(target) = nodes.get(place)
+            {
+                let bold = if back[k] {
+                    " penwidth=2 color=blue"
+                } else {
+                    ""
+                };
+                out.put(&format_args!(
+                    "    b{number} -> b{}{}{bold}];\n",
+                    target.number, styles[k]
+                ));
+            }
+        }
     }
     Ok(())
 }

@@ -1,7 +1,7 @@
 //! What becomes of a C text, stage by stage, and of an image as assembler source, as text for people.
 //!
 //! Contract: `show`, `assembler_source`
-//! - What is printed is printable ASCII in lines. What `show` prints is of a source that spells a program without errors.
+//! - What is printed is printable ASCII in lines.
 //!
 //! | Tested | In |
 //! |---|---|

@@ -44,8 +44,7 @@ impl<'a> View<'a> {
             let k = range.from.saturating_add(k);
             let is_shown = is_shown && self.wanted.has_block(k);
             if is_shown {
-                put_heading(out, k, self.callee(order.exit()));
-                out.text("\n");
+                put_heading(out, k, self.callee(order.exit()), "\n");
             }
             put_words(out, lines, order_words(order), is_shown);
         }
@@ -83,10 +82,11 @@ pub(crate) fn put_title(out: &mut Writer, names: &Names<'_>, number: usize) {
     }
 }
 
-/// Writes the line over a block: its number, and the function that it calls.
-pub(crate) fn put_heading(out: &mut Writer, number: usize, called: Option<&str>) {
+/// Writes the line over a block: its number, the function that it calls, and an end.
+pub(crate) fn put_heading(out: &mut Writer, number: usize, called: Option<&str>, end: &str) {
     out.put(&format_args!("  block {number}"));
     if let Some(name) = called {
         out.put(&format_args!(" (calls {name})"));
     }
+    out.text(end);
 }

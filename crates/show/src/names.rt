@@ -17,7 +17,6 @@ pub(crate) struct Names<'t> {
     text: &'t [u8],
     functions: Vec<FunctionNames>,
     globals: Vec<Identifier>,
-    is_refused: bool,
 }
 
 fn tokens_of(alloc: Global, text: &[u8]) -> Result<Vec<Token>, AllocError> {
@@ -38,49 +37,48 @@ impl<'t> Names<'t> {
             text,
             functions: Vec::new(alloc),
             globals: Vec::new(alloc),
-            is_refused: false,
         };
-        let mut before = None;
-        let mut open = 0usize;
+        let (mut is_after_type, mut open) = (false, 0usize);
         for (k, token) in tokens.iter().enumerate() {
-            let is_after_type = matches!(
-                before,
-                Some(Token::The(Mark::Int | Mark::Unsigned | Mark::Char | Mark::Void))
-            );
             match *token {
                 Token::Name(name) if is_after_type => {
                     let is_function = matches!(
                         tokens.get(k + 1),
                         Some(Token::The(Mark::LeftParen))
                     );
-                    names.declare(alloc, name, open, is_function);
+                    names.declare(alloc, name, open, is_function)?;
                 }
                 Token::The(Mark::LeftParen | Mark::LeftBrace) => open = open.saturating_add(1),
                 Token::The(Mark::RightParen | Mark::RightBrace) => open = open.saturating_sub(1),
                 _ => {}
             }
-            before = Some(*token);
-        }
-        if names.is_refused {
-            return Err(AllocError);
+            is_after_type = matches!(
+                *token,
+                Token::The(Mark::Int | Mark::Unsigned | Mark::Char | Mark::Void)
+            );
         }
         Ok(names)
     }
 
     /// Adds a declared name: at file scope a function or a global, else a local of the last function.
-    fn declare(&mut self, alloc: Global, name: Identifier, open: usize, is_function: bool) {
-        let is_refused = if open > 0 {
-            match self.functions.last_mut() {
-                Some(function) => function.locals.push(name).is_err(),
-                None => false,
+    fn declare(
+        &mut self,
+        alloc: Global,
+        name: Identifier,
+        open: usize,
+        is_function: bool,
+    ) -> Result<(), AllocError> {
+        if open > 0 {
+            if let Some(function) = self.functions.last_mut() {
+                function.locals.push(name)?;
             }
         } else if is_function {
             let locals = Vec::new(alloc);
-            self.functions.push(FunctionNames { name, locals }).is_err()
+            self.functions.push(FunctionNames { name, locals })?;
         } else {
-            self.globals.push(name).is_err()
-        };
-        self.is_refused = self.is_refused || is_refused;
+            self.globals.push(name)?;
+        }
+        Ok(())
     }
 
     fn spelling(&self, name: Identifier) -> &'t str {
@@ -91,18 +89,15 @@ impl<'t> Names<'t> {
 
     /// Returns the name of a function; `?` where there is none of this number.
     pub(crate) fn function(&self, number: usize) -> &'t str {
-        match self.functions.get(number) {
-            Some(function) => self.spelling(function.name),
-            None => "?",
-        }
+        let function = self.functions.get(number);
+        function.map_or("?", |function| self.spelling(function.name))
     }
 
     /// Returns the name of a global.
     pub(crate) fn global(&self, number: usize) -> &'t str {
-        match self.globals.get(number) {
-            Some(name) => self.spelling(*name),
-            None => "?",
-        }
+        self.globals
+            .get(number)
+            .map_or("?", |name| self.spelling(*name))
     }
 
     /// Returns the number of the function of this name.

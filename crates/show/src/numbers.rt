@@ -1,7 +1,6 @@
-//! Which blocks are whose: those of the unit, and those of RTL with the numbers that they have in the unit.
+//! Which of a unit's blocks are whose.
 
 use mblock::Unit;
-use rtl::RFunc;
 use std::alloc::{AllocError, Global};
 
 /// The blocks of one function among all: from this number up to this one, which isn't one of them.
@@ -26,26 +25,13 @@ impl Range {
 pub(crate) fn functions_of(alloc: Global, unit: &Unit) -> Result<Vec<Range>, AllocError> {
     let mut ranges = Vec::new(alloc);
     let mut from = 0usize;
-    let mut to = 0usize;
     for (k, owner) in unit.owner().iter().enumerate() {
         if owner.number() as usize == k && k > 0 {
             ranges.push(Range { from, to: k })?;
             from = k;
         }
-        to = k + 1;
     }
+    let to = unit.owner().len();
     ranges.push(Range { from, to })?;
-    Ok(ranges)
-}
-
-/// Returns each function's blocks of RTL, where those of one function follow those of another.
-pub(crate) fn rtl_blocks_of(alloc: Global, functions: &[RFunc]) -> Result<Vec<Range>, AllocError> {
-    let mut ranges = Vec::new(alloc);
-    let mut from = 0usize;
-    for function in functions {
-        let to = from.saturating_add(function.blocks.len());
-        ranges.push(Range { from, to })?;
-        from = to;
-    }
     Ok(ranges)
 }

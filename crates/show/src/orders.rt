@@ -39,7 +39,6 @@ pub(crate) fn put_settled(
     out: &mut Writer,
     block: &Block,
 ) -> Result<(), AllocError> {
-    out.text(": ");
     let verdict = match verdict_by(alloc, block, Room::Few)? {
         Verdict::Full => verdict_by(alloc, block, Room::Many)?,
         verdict => verdict,

@@ -9,7 +9,7 @@ use crate::dot::{exit_places, put_nodes, rtl_places};
 use crate::homes::put_homes;
 use crate::listing::{put_heading, put_title};
 use crate::names::Names;
-use crate::numbers::{Range, functions_of, rtl_blocks_of};
+use crate::numbers::{Range, functions_of};
 use crate::orders::{put_check, put_needed, put_settled};
 use crate::rtl_text::RtlView;
 use crate::wanted::{Asked, ShowFault, Stage, Wanted};
@@ -44,8 +44,6 @@ pub(crate) struct View<'a> {
     pub(crate) wanted: Wanted,
     pub(crate) names: Names<'a>,
     pub(crate) ranges: Vec<Range>,
-    /// The functions' blocks of RTL.
-    rtl_ranges: Vec<Range>,
     frames: Vec<Frame>,
 }
 
@@ -67,13 +65,17 @@ impl<'a> View<'a> {
     /// Returns RTL of the function of this number among the ranges, the first of which is none of the program's.
     fn rtl(&self, number: usize) -> Option<(RtlView<'_>, &'a [RBlock])> {
         let number = number.checked_sub(1)?;
-        let blocks = self.shown.rtl.functions().get(number)?.blocks.as_slice();
-        let range = self.rtl_ranges.get(number).copied().unwrap_or_default();
+        let functions = self.shown.rtl.functions();
+        let blocks = functions.get(number)?.blocks.as_slice();
+        let mut before = 0usize;
+        for function in functions.iter().take(number) {
+            before = before.saturating_add(function.blocks.len());
+        }
         let view = RtlView {
             names: &self.names,
             function: number,
             globals: self.shown.rtl.globals(),
-            numbers: range.of(self.shown.numbers),
+            numbers: self.shown.numbers.get(before..).unwrap_or_default(),
         };
         Some((view, blocks))
     }
@@ -81,20 +83,15 @@ impl<'a> View<'a> {
     /// Writes the blocks of a function in one of their stages.
     fn put_blocks(&self, out: &mut Writer, stage: Stage, number: usize) -> Result<(), AllocError> {
         let range = self.range(number);
+        let end = if stage == Stage::Orders { ": " } else { "\n" };
         for (k, block) in range.of(self.shown.unit.blocks()).iter().enumerate() {
             let k = range.from.saturating_add(k);
             if self.wanted.has_block(k) {
-                put_heading(out, k, self.callee(block.exit()));
+                put_heading(out, k, self.callee(block.exit()), end);
                 match stage {
                     Stage::Orders => put_settled(self.alloc, out, block)?,
-                    Stage::Terms => {
-                        out.text("\n");
-                        put_left(self.alloc, out, block, DEPTH)?;
-                    }
-                    _ => {
-                        out.text("\n");
-                        put_needed(out, block, "    ", "\n");
-                    }
+                    Stage::Terms => put_left(self.alloc, out, block, DEPTH)?,
+                    _ => put_needed(out, block, "    ", "\n"),
                 }
             }
         }
@@ -279,7 +276,6 @@ pub fn show(alloc: Global, shown: Shown<'_>, asked: &Asked<'_>) -> Result<Page, 
         wanted,
         names,
         ranges,
-        rtl_ranges: rtl_blocks_of(alloc, shown.rtl.functions())?,
         frames,
     };
     view.page()

@@ -136,8 +136,7 @@ impl<'a> RtlView<'a> {
         for (k, block) in blocks.iter().enumerate() {
             let number = self.number(k);
             if wanted.has_block(number) {
-                put_heading(out, number, None);
-                out.text("\n");
+                put_heading(out, number, None, "\n");
                 self.lines(out, block, "    ", "\n");
             }
         }
