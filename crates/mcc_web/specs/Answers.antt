@@ -9,11 +9,16 @@ use Rattle.driver.specs.Builds.{IsPlain, IsScheduledBuild}
 use Rattle.driver.specs.BuildFaults.{IsBuildFault}
 use Rattle.driver.specs.Follows.{FollowsText}
 use Rattle.driver.specs.declared.build_command.builds.Built.{Built}
+use Rattle.mcc_web.specs.declared.told.TheConstants.{REFUSED}
 
 -- a text of this length, at the front of what the host lent, where it fits; else that is as it was
 abbrev pub Gives : (text : List ℕ) → (said : ℕ) → (old new : List ℕ) → Type 0
 Gives text said old new = (said ≡ length text) × (length new ≡ length old) × (said ≤ length old → take said new ≡ text)
     × (length old < said → new ≡ old)
+
+-- where memory was refused to a text there is none, and what the host lent is as it was
+abbrev pub KeepsRefused : (status said : ℕ) → (old new : List ℕ) → Type 0
+KeepsRefused status said old new = status ≡ REFUSED → (said ≡ 0) × (new ≡ old)
 
 -- a line of a fault, and maybe more after it
 abbrev pub GivesLine : (line : List ℕ) → (said : ℕ) → (old new : List ℕ) → Type 0

@@ -4,9 +4,11 @@ use Rattle.std.specs.List.{flat_map}
 use Rattle.mips_isa.specs.declared.inst.Plain.{Plain}
 use Rattle.mips_isa.specs.Texts.{instruction_text}
 use Rattle.mblock.specs.Parts.{BlockParts, OrderParts}
-use Rattle.mblock.specs.Units.{UnitParts}
 use Rattle.mblock.specs.Orders.{AreOrders}
 use Rattle.block_text.specs.Spelling.{exit_text}
+use Rattle.sched_phase.specs.Phases.{IsWholePhase}
+use Rattle.sched_phase.specs.Schedules.{ScheduledParts}
+use Rattle.driver.specs.BuildCommand.{AnyOrder}
 use Rattle.driver.specs.Halves.{IsUnitOf}
 use Rattle.mcc_web.specs.Answers.{Gives}
 
@@ -31,11 +33,11 @@ abbrev pub pairs_text : (number : ℕ) → List ℕ → List BlockParts → List
 pairs_text number (w ∷ ws) (b ∷ bs) (o ∷ os) = pair_text number w b o ++ pairs_text (number + 1) ws bs os
 pairs_text number _ _ _ = []
 
--- a unit of the program that the text spells, with orders of its blocks
+-- a scheduled unit of the program that the text spells: each block with a checked order, or the plain one
 pub record SaysOrders (text : List ℕ) (depth : ℕ) (status said : ℕ) (old new : List ℕ) : Type 0 where
-  pub unit : UnitParts
-  pub of_text : IsUnitOf text depth unit
-  pub orders : List OrderParts
-  pub are_orders : AreOrders unit.blocks orders
+  pub scheduled : ScheduledParts
+  pub of_text : IsUnitOf text depth scheduled.unit
+  pub are_orders : AreOrders scheduled.unit.blocks scheduled.orders
+  pub phase : IsWholePhase AnyOrder scheduled
   pub ends : status ≡ 0
-  pub gives : Gives (pairs_text 0 unit.owner unit.blocks orders) said old new
+  pub gives : Gives (pairs_text 0 scheduled.unit.owner scheduled.unit.blocks scheduled.orders) said old new

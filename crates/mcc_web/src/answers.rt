@@ -1,11 +1,11 @@
 //! The exports that print what a command prints.
 
-ghost use Rattle.std.specs.Prelude.{◌≡◌, ◌≢◌, true, false};
+ghost use Rattle.std.specs.Prelude.{◌≡◌, ◌≢◌, ◌<◌, true, false};
 ghost use Rattle.host.specs.declared.numbers.WordForm.TheVariants.{Unsigned};
 ghost use Rattle.driver.specs.CheckCommand.{checking};
 ghost use Rattle.driver.specs.Program.{interpreting, listing_image, showing};
 ghost use Rattle.driver.specs.RunCommand.{running};
-ghost use Rattle.mcc_web.specs.Answers.{SaysAnswer, SaysFaultOf, SaysReason};
+ghost use Rattle.mcc_web.specs.Answers.{KeepsRefused, SaysAnswer, SaysFaultOf, SaysReason};
 ghost use Rattle.mcc_web.specs.declared.told.TheConstants.{REFUSED};
 
 pub use crate::told::REFUSED;
@@ -27,6 +27,7 @@ fn give<C: FileCommand>(
 ) -> usize
     ensures answered { status.new ≢ 1 → status.new ≢ REFUSED → SaysAnswer (C.meaning command.now) bytes.now status.new result out.old out.new }
     ensures faulty { status.new ≡ 1 → SaysFaultOf (C.meaning command.now) bytes.now result out.old out.new }
+    ensures refused { C.most < REFUSED → KeepsRefused status.new result out.old out.new }
 {
     let mut printed = Vec::new(alloc);
     match command.run(alloc, bytes, &mut printed) {
@@ -53,6 +54,7 @@ pub extern "C" fn mcc_web_check(
 ) -> usize
     ensures answered { status.new ≢ 1 → status.new ≢ REFUSED → SaysAnswer (checking false) text.now status.new result out.old out.new }
     ensures faulty { status.new ≡ 1 → SaysFaultOf (checking false) text.now result out.old out.new }
+    ensures refused { KeepsRefused status.new result out.old out.new }
 {
     let command = CheckCommand { explain: false };
     give(alloc, &command, "order.check", text, out, status)
@@ -68,6 +70,7 @@ pub extern "C" fn mcc_web_explain(
 ) -> usize
     ensures answered { status.new ≢ 1 → status.new ≢ REFUSED → SaysAnswer (checking true) text.now status.new result out.old out.new }
     ensures faulty { status.new ≡ 1 → SaysFaultOf (checking true) text.now result out.old out.new }
+    ensures refused { KeepsRefused status.new result out.old out.new }
 {
     let command = CheckCommand { explain: true };
     give(alloc, &command, "order.check", text, out, status)
@@ -86,6 +89,7 @@ pub extern "C" fn mcc_web_interp(
     ensures answered { status.new ≢ 1 → status.new ≢ REFUSED
         → SaysAnswer (interpreting depth steps Unsigned false) text.now status.new result out.old out.new }
     ensures faulty { status.new ≡ 1 → SaysFaultOf (interpreting depth steps Unsigned false) text.now result out.old out.new }
+    ensures refused { KeepsRefused status.new result out.old out.new }
 {
     let command = InterpCommand {
         source: "program.c",
@@ -109,7 +113,7 @@ pub extern "C" fn mcc_web_wrong(
     status: &mut u8,
 ) -> usize
     ensures told { status.new ≢ REFUSED → SaysReason status.new result out.old out.new }
-    ensures kept { status.new ≡ REFUSED → out.new ≡ out.old }
+    ensures refused { KeepsRefused status.new result out.old out.new }
 {
     match wrong_page(alloc, "program.c", text, depth, steps) {
         Some(page) => {
@@ -132,6 +136,7 @@ pub extern "C" fn mcc_web_run(
     ensures answered { status.new ≢ 1 → status.new ≢ REFUSED
         → SaysAnswer (running steps Unsigned false) image.now status.new result out.old out.new }
     ensures faulty { status.new ≡ 1 → SaysFaultOf (running steps Unsigned false) image.now result out.old out.new }
+    ensures refused { KeepsRefused status.new result out.old out.new }
 {
     let command = RunCommand {
         steps,
@@ -151,6 +156,7 @@ pub extern "C" fn mcc_web_list(
 ) -> usize
     ensures answered { status.new ≢ 1 → status.new ≢ REFUSED → SaysAnswer (listing_image false) image.now status.new result out.old out.new }
     ensures faulty { status.new ≡ 1 → SaysFaultOf (listing_image false) image.now result out.old out.new }
+    ensures refused { KeepsRefused status.new result out.old out.new }
 {
     let command = ImageCommand { asm: false };
     give(alloc, &command, "program.image", image, out, status)
@@ -178,6 +184,7 @@ pub extern "C" fn mcc_web_show(
 ) -> usize
     ensures answered { status.new ≢ 1 → status.new ≢ REFUSED → SaysAnswer showing text.now status.new result out.old out.new }
     ensures faulty { status.new ≡ 1 → SaysFaultOf showing text.now result out.old out.new }
+    ensures refused { KeepsRefused status.new result out.old out.new }
 {
     let asked = Asked {
         stage: name_of(stage),

@@ -4,7 +4,7 @@ ghost use Rattle.std.specs.Prelude.{◌≡◌, ◌≢◌, ◌≤◌, ◌++◌, I
 ghost use Rattle.driver.specs.BuildCommand.{built_text, factor_of};
 ghost use Rattle.driver.specs.BuildFaults.{IsBuildFault};
 ghost use Rattle.driver.specs.Follows.{FollowsText};
-ghost use Rattle.mcc_web.specs.Answers.{IsScheduledAs, SaysBuildFault, SaysImage};
+ghost use Rattle.mcc_web.specs.Answers.{IsScheduledAs, KeepsRefused, SaysBuildFault, SaysImage};
 ghost use Rattle.mcc_web.specs.declared.told.TheConstants.{REFUSED};
 
 use crate::told::{Told, put, refuse};
@@ -72,6 +72,7 @@ pub(crate) fn give_build_fault(
     requires { IsBuildFault text.now depth fault }
     ensures ends { status.new ≢ 1 → status.new ≡ REFUSED }
     ensures faulty { status.new ≡ 1 → SaysBuildFault text.now depth result out.old out.new }
+    ensures refused { KeepsRefused status.new result out.old out.new }
 {
     let _ = depth;
     let mut told = Told::new(alloc);
@@ -91,9 +92,11 @@ pub extern "C" fn mcc_web_build(
     status: &mut u8,
 ) -> usize
     ensures wrong_words { status.new ≡ 2 → depth ≡ 0 }
+    ensures no_depth { depth ≡ 0 → (status.new ≡ 2) × (result ≡ 0) × (out.new ≡ out.old) }
     ensures answered { status.new ≢ 1 → status.new ≢ 2 → status.new ≢ REFUSED
         → (status.new ≡ 0) × SaysImage text.now depth plain result out.old out.new }
     ensures faulty { status.new ≡ 1 → SaysBuildFault text.now depth result out.old out.new }
+    ensures refused { KeepsRefused status.new result out.old out.new }
 {
     if depth == 0 {
         *status = 2;

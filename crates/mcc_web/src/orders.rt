@@ -2,7 +2,7 @@
 
 ghost use Rattle.std.specs.Prelude.{◌≡◌, ◌≢◌, OnOk, length};
 ghost use Rattle.std.specs.Io.KnownBytes.{Appends};
-ghost use Rattle.mcc_web.specs.Answers.{SaysBuildFault};
+ghost use Rattle.mcc_web.specs.Answers.{KeepsRefused, SaysBuildFault};
 ghost use Rattle.mcc_web.specs.Orders.{SaysOrders, insts_text, pair_text, pairs_text};
 ghost use Rattle.mcc_web.specs.declared.told.TheConstants.{REFUSED};
 
@@ -71,7 +71,7 @@ fn print_pairs<W: Write>(
     Ok(())
 }
 
-/// The blocks of the program that the text spells, each with the order that it has in the image of `mcc_web_build`. Else it is the fault of
+/// The blocks of the program that the text spells, each with an order that a build may give it. Else it is the fault of
 /// `mcc build program.c IMAGE`, and its status.
 #[unsafe(no_mangle)]
 pub extern "C" fn mcc_web_orders(
@@ -82,9 +82,11 @@ pub extern "C" fn mcc_web_orders(
     status: &mut u8,
 ) -> usize
     ensures wrong_words { status.new ≡ 2 → depth ≡ 0 }
+    ensures no_depth { depth ≡ 0 → (status.new ≡ 2) × (result ≡ 0) × (out.new ≡ out.old) }
     ensures answered { status.new ≢ 1 → status.new ≢ 2 → status.new ≢ REFUSED
         → SaysOrders text.now depth status.new result out.old out.new }
     ensures faulty { status.new ≡ 1 → SaysBuildFault text.now depth result out.old out.new }
+    ensures refused { KeepsRefused status.new result out.old out.new }
 {
     if depth == 0 {
         *status = 2;

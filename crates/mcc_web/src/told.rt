@@ -25,7 +25,8 @@ pub(crate) fn put(out: &mut [u8], text: &[u8]) -> usize
 
 /// Refuses memory to the text of an answer.
 pub(crate) fn refuse(status: &mut u8) -> usize
-    ensures { status.new ≡ REFUSED }
+    ensures status { status.new ≡ REFUSED }
+    ensures said { result ≡ 0 }
 {
     *status = REFUSED;
     0
@@ -53,7 +54,7 @@ impl Told {
     pub(crate) fn give(&self, out: &mut [u8], status: &mut u8) -> usize
         ensures given { status.new ≢ REFUSED → (self.now.is_whole ≡ true) × (status.new ≡ status.old)
             × Gives self.now.lines.items result out.old out.new }
-        ensures refused { self.now.is_whole ≡ false → status.new ≡ REFUSED }
+        ensures refused { self.now.is_whole ≡ false → (status.new ≡ REFUSED) × (result ≡ 0) × (out.new ≡ out.old) }
         ensures kept { self.now.is_whole ≡ true → status.new ≡ status.old }
     {
         if self.is_whole {

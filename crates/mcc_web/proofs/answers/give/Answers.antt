@@ -1,3 +1,4 @@
+use Rattle.std.proofs.Common.{arith}
 use Rattle.mcc_web.proofs.Fronts.{fault_given}
 use Rattle.mcc_web.proofs.answers.give.Goals as goal
 
@@ -8,3 +9,6 @@ returns-in-Err-Faulty-clause-faulty g c =
     fault_given (m.Faults c.args.bytes.now) m.line c.in-Err-Faulty.fault c.new-told.result c.tell.new.err
     c.give.new.status _ c.give.result c.args.out.now c.give.new.out
     broken.0 c.new-told.ensures.lines c.tell.ensures.told c.give.ensures.given
+
+pub returns-in-Ok-clause-refused : goal.returns-in-Ok-clause-refused
+returns-in-Ok-clause-refused g c = λ few is. absurd (omega (arith, few, is, c.status_of.ensures.most))
