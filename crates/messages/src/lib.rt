@@ -1,8 +1,8 @@
 //! What is said of the errors of a C text, and warnings: what is wrong, in plain words, and what to write instead.
 //!
-//! Contract: `explain`
+//! Contract: `explain`, `SourceFault`
 //! - `explain` gives printable ASCII for each source and each error.
-//! - The line of an error is exact.
+//! - The line of an error, `SourceFault`, is exact.
 //!
 //! | Tested | In |
 //! |---|---|
