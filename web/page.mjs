@@ -73,7 +73,7 @@ const page = {
   text: '', built: '', lines: [], marks: {}, told: null, wrong: null, image: null, blocks: [], groups: [], group: null,
   chosen: null, order: null, at: 0, said: '', stages: new Map(), tried: null, isRunning: false, isOther: false,
   mine: new Map(), past: [], badLine: null, globals: [], isPlaying: false, goal: null, wanted: {}, colours: null,
-  listing: [], view: null, before: null, breakpoint: null, cursor: null, touched: null, isBusy: false, isStale: false, isDimmed: false, replaced: null,
+  listing: [], view: null, before: null, breakpoint: null, cursor: null, touched: null, isBusy: false, isStale: false, isDimmed: false, isHeld: false, replaced: null,
 };
 
 // ---- the C text
@@ -147,14 +147,19 @@ function showFault(told) {
   showGutter();
 }
 
-// What stands on the right isn't of the text on the left: it is dimmed, and says why.
+// What stands on the right isn't of the text on the left: it is dimmed, and says why. Who held the order before holds it after.
 function setStale(why) {
   if (why !== null) keepLine();
+  page.isHeld ||= $('order').contains(document.activeElement);
   const below = page.chosen ? 'Below is what the last text without a fault gave.' : 'There is nothing below yet.';
   Object.assign($('stale'), { hidden: why === null, textContent: `${why} ${below}` });
   $('right').classList.toggle('stale', why !== null);
   page.isDimmed = why !== null;
   for (const tab of TABS) $(tab).inert = page.isDimmed;
+  if (!page.isDimmed) {
+    if (page.isHeld && document.activeElement === document.body) focusOrder();
+    page.isHeld = false;
+  }
   showGoal();
 }
 

@@ -388,8 +388,13 @@ async function agrees(page) {
   await page.value(`document.querySelector('#order li').focus()`);
   await page.key('ArrowDown', { alt: true });
   judge('its order changes on the right', await page.until(`${text('verdict')} === 'differs mem' && ${text('state')} === 'differs mem'`), await page.value(text('state')));
-  // Firefox 153 loses it here in one run of three, and it isn't known why
-  if (name !== 'firefox') judge('and keeps the focus', await page.value(`document.activeElement.dataset.place === '1'`));
+  judge('and keeps the focus', await page.value(`document.activeElement.dataset.place === '1'`));
+  // each answer is late: the right side is dimmed at once
+  await page.value(`window.timer = setTimeout, window.setTimeout = (work, time) => timer(work, time === 700 ? 0 : time)`);
+  await page.key('ArrowUp', { alt: true });
+  judge('also where the answer is late', await page.until(`${text('verdict')} === 'same' && ${text('state')} === 'same' && document.activeElement.dataset.place === '0'`),
+    await page.value('document.activeElement.outerHTML'));
+  await page.value('window.setTimeout = timer');
 
   const fault = 'int main(void) {\n    int i;\n    i++;\n    return 0;\n}\n';
   await page.value(typed(fault));
