@@ -238,7 +238,7 @@ async function machine(page) {
   judge('and pauses', await page.until(`${text('play')} === 'Play'`));
   await page.value(typed('int a[4];\nint main(void) {\n    int i;\n    i = 7;\n    a[i * 100000] = 7;\n    return 0;\n}\n'));
   judge('stuck says why', await page.until(`${text('reason')}.includes("an address that isn't mapped") && ${text('reason')}.includes('sw ')`), await page.value(text('reason')));
-  judge('wrong says why and where', await page.until(`${text('reason')}.startsWith('Wrong in main, line 5: the index 700000 is outside its array of length 4.')`), await page.value(text('reason')));
+  judge('wrong says why and where', await page.until(`${text('reason')}.startsWith("Wrong in main, line 5: the index 700000 is outside the array 'a' of length 4.")`), await page.value(text('reason')));
   judge('and marks the statement', (await page.value(`document.querySelector('#behind mark')?.textContent`)) === 'a');
   judge('beside wrong, in two outputs', (await page.value(text('interp'))).startsWith('wrong') && (await page.value(`document.getElementById('machine').checkVisibility()`)));
   await page.value(`document.querySelector('#reason button').click()`);

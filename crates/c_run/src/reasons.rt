@@ -21,10 +21,14 @@ use std::alloc::{AllocError, Global};
 /// What has no meaning (C99 3.4.3).
 #[derive(Clone, Copy)]
 pub enum Reason {
-    /// A local is read that isn't set.
-    Unset,
-    /// The index, read as its type says, is outside its array, which has so many elements.
+    /// A local of this number and type is read that isn't set.
+    Unset {
+        local: usize,
+        integer_type: IntegerType,
+    },
+    /// The index, read as its type says, is outside the array of this number, which has so many elements.
     Outside {
+        array: usize,
         index: u32,
         integer_type: IntegerType,
         length: usize,
@@ -72,6 +76,7 @@ fn missing_of_element(
         return None;
     }
     Some(Reason::Outside {
+        array,
         index,
         integer_type,
         length,
@@ -88,9 +93,12 @@ fn missing_of_expression(
 {
     match e {
         TypedExpression::Constant(_) | TypedExpression::Global(_, _) => None,
-        TypedExpression::Local(_, _) => match value(e, locals, globals) {
+        TypedExpression::Local(integer_type, local) => match value(e, locals, globals) {
             Some(_) => None,
-            None => Some(Reason::Unset),
+            None => Some(Reason::Unset {
+                local: *local,
+                integer_type: *integer_type,
+            }),
         },
         TypedExpression::Element(_, parts) => {
             let (array, index) = &**parts;

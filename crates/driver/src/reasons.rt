@@ -5,9 +5,9 @@ use crate::wrong_places::place_in_text;
 use c_run::{Reason, reason_of, wrong_place_of};
 use c_tokens::IntegerType;
 use c_tree::{BinaryOp, UnaryOp};
-use c_types::Typed;
 use host::{Spot, spot_of};
-use std::alloc::{AllocError, Global};
+use show::Names;
+use std::alloc::Global;
 use text::{Page, WIDTH, Writer};
 
 /// Returns what was written, its long lines cut; None if memory was refused to it.
@@ -55,19 +55,31 @@ fn put_operation(out: &mut Writer, operator: BinaryOp, left: i64, right: i64) {
     out.put(&format_args!("wrong: {left} {sign} {right} {words}\n"));
 }
 
-/// Writes why a run is wrong, and a hint where there is one.
-fn put_reason(out: &mut Writer, why: Reason, depth: u32) {
+/// Writes why a run is wrong in the function of this number, and a hint where there is one.
+fn put_reason(out: &mut Writer, why: Reason, depth: u32, names: &Names<'_>, function: usize) {
     match why {
-        Reason::Unset => out.text(
-            "wrong: a local is read that isn't set\nhint: give it a first value: int i = 0;\n",
-        ),
+        Reason::Unset {
+            local,
+            integer_type,
+        } => {
+            let name = names.local(function, local);
+            let type_name = match integer_type {
+                IntegerType::SignedInt => "int",
+                IntegerType::UnsignedInt => "unsigned",
+            };
+            out.put(&format_args!(
+                "wrong: '{name}' is read before it is set\nhint: give it a first value: {type_name} {name} = 0;\n"
+            ));
+        }
         Reason::Outside {
+            array,
             index,
             integer_type,
             length,
         } => out.put(&format_args!(
-            "wrong: the index {} is outside its array of length {length}\n",
-            read_as(integer_type, index)
+            "wrong: the index {} is outside the array '{}' of length {length}\n",
+            read_as(integer_type, index),
+            names.global(array)
         )),
         Reason::Prefix {
             operator: UnaryOp::Negate,
@@ -96,33 +108,6 @@ fn put_reason(out: &mut Writer, why: Reason, depth: u32) {
     }
 }
 
-/// A run of the program that a text spells, with its bounds. `source` is the text's name.
-#[derive(Clone, Copy)]
-struct BoundedRun<'a> {
-    source: &'a str,
-    text: &'a [u8],
-    typed: &'a Typed,
-    depth: u32,
-    steps: u64,
-}
-
-/// Writes where a run is wrong: nothing, where that isn't known.
-fn put_place(alloc: Global, out: &mut Writer, run: BoundedRun<'_>) -> Result<(), AllocError> {
-    let Some(place) = wrong_place_of(alloc, run.typed, run.depth, run.steps)? else {
-        return Ok(());
-    };
-    let Some(place) = place_in_text(alloc, run.text, run.typed, place) else {
-        return Ok(());
-    };
-    out.text(run.source);
-    if let Some(at) = place.at {
-        let Spot { line, column } = spot_of(run.text, at);
-        out.put(&format_args!(":{line}:{column}"));
-    }
-    out.put(&format_args!(": in function '{}':\n", place.function));
-    Ok(())
-}
-
 /// Returns where and why the program that the text spells ends wrong within so many steps, in lines for people. None if it doesn't, or
 /// memory was refused. `source` is the text's name.
 pub fn wrong_page(
@@ -134,15 +119,15 @@ pub fn wrong_page(
 ) -> Option<Page> {
     let typed = typed_of(alloc, text).ok()?;
     let why = reason_of(alloc, &typed, depth, steps).ok()??;
-    let run = BoundedRun {
-        source,
-        text,
-        typed: &typed,
-        depth,
-        steps,
-    };
+    let place = wrong_place_of(alloc, &typed, depth, steps).ok()??;
+    let names = Names::read(alloc, text).ok()?;
     let mut out = Writer::new(alloc);
-    put_place(alloc, &mut out, run).ok()?;
-    put_reason(&mut out, why, depth);
+    out.text(source);
+    if let Some(at) = place_in_text(alloc, text, &typed, place).ok()? {
+        let Spot { line, column } = spot_of(text, at);
+        out.put(&format_args!(":{line}:{column}"));
+    }
+    out.put(&format_args!(": in function '{}':\n", names.function(place.function)));
+    put_reason(&mut out, why, depth, &names, place.function);
     page_of(alloc, out)
 }

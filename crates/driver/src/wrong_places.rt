@@ -6,11 +6,10 @@ use c_run::WrongPlace;
 use c_tree::{Declaration, FunctionDefinition, Program};
 use c_typed::TypedStatement;
 use c_types::Typed;
-use std::alloc::Global;
-use std::str;
+use std::alloc::{AllocError, Global};
 
 /// Finds the function of this number.
-pub(crate) fn function_of(program: &Program, number: usize) -> Option<&FunctionDefinition> {
+fn function_of(program: &Program, number: usize) -> Option<&FunctionDefinition> {
     let mut k = 0usize;
     for declaration in &program.declarations {
         if let Declaration::Function(function) = declaration {
@@ -23,14 +22,6 @@ pub(crate) fn function_of(program: &Program, number: usize) -> Option<&FunctionD
     None
 }
 
-/// A function, and the place of a statement of it.
-#[derive(Clone, Copy)]
-pub(crate) struct NamedPlace<'t> {
-    pub(crate) function: &'t str,
-    /// None where another statement of the function is like it.
-    pub(crate) at: Option<usize>,
-}
-
 /// Finds where the statement of a function that is like this one stands; None if there are more.
 fn place_of(
     alloc: Global,
@@ -38,8 +29,8 @@ fn place_of(
     body: &[TypedStatement],
     wanted: &TypedStatement,
     left: usize,
-) -> Option<usize> {
-    let placed = placed_statements(alloc, function, body).ok()?;
+) -> Result<Option<usize>, AllocError> {
+    let placed = placed_statements(alloc, function, body)?;
     let mut count = 0usize;
     let mut at = None;
     for one in &placed {
@@ -48,25 +39,25 @@ fn place_of(
             at = one.at;
         }
     }
-    if count == 1 { at } else { None }
+    Ok(if count == 1 { at } else { None })
 }
 
-/// Finds a place of a program's run in its text.
-pub(crate) fn place_in_text<'t>(
+/// Finds a place of a program's run in its text; None where another statement of the function is like it. An Err means out of memory.
+pub(crate) fn place_in_text(
     alloc: Global,
-    text: &'t [u8],
+    text: &[u8],
     typed: &Typed,
     place: WrongPlace<'_>,
-) -> Option<NamedPlace<'t>> {
-    let program = read(alloc, text).ok()?;
-    let function = function_of(&program, place.function)?;
-    let body = &typed.functions().get(place.function)?.body;
-    let start = function.name.at as usize;
-    let end = start.saturating_add(function.name.length as usize);
-    let name = str::from_utf8(text.get(start..end).unwrap_or(b"?")).unwrap_or("?");
-    let at = match place.statement {
-        Some(wanted) => place_of(alloc, function, body, wanted, place.left),
-        None => Some(start),
+) -> Result<Option<usize>, AllocError> {
+    let Ok(program) = read(alloc, text) else {
+        return Err(AllocError);
     };
-    Some(NamedPlace { function: name, at })
+    let function = function_of(&program, place.function);
+    let (Some(function), Some(typed)) = (function, typed.functions().get(place.function)) else {
+        return Ok(None);
+    };
+    match place.statement {
+        Some(wanted) => place_of(alloc, function, &typed.body, wanted, place.left),
+        None => Ok(Some(function.name.at as usize)),
+    }
 }

@@ -24,5 +24,6 @@ mod wanted;
 
 pub use assembler::assembler_source;
 pub use listing::order_words;
+pub use names::Names;
 pub use program::{Shown, show};
 pub use wanted::{Asked, ShowFault};

@@ -13,7 +13,7 @@ pub(crate) struct FunctionNames {
 
 /// The names of a text, as its tokens have them: each stands after its type.
 #[derive(Drop)]
-pub(crate) struct Names<'t> {
+pub struct Names<'t> {
     text: &'t [u8],
     functions: Vec<FunctionNames>,
     globals: Vec<Identifier>,
@@ -30,8 +30,8 @@ fn tokens_of(alloc: Global, text: &[u8]) -> Result<Vec<Token>, AllocError> {
 }
 
 impl<'t> Names<'t> {
-    /// Returns the names that a text declares.
-    pub(crate) fn read(alloc: Global, text: &'t [u8]) -> Result<Names<'t>, AllocError> {
+    /// Returns the names that a text declares. An Err means out of memory.
+    pub fn read(alloc: Global, text: &'t [u8]) -> Result<Names<'t>, AllocError> {
         let tokens = tokens_of(alloc, text)?;
         let mut names = Names {
             text,
@@ -88,13 +88,13 @@ impl<'t> Names<'t> {
     }
 
     /// Returns the name of a function; `?` where there is none of this number.
-    pub(crate) fn function(&self, number: usize) -> &'t str {
+    pub fn function(&self, number: usize) -> &'t str {
         let function = self.functions.get(number);
         function.map_or("?", |function| self.spelling(function.name))
     }
 
-    /// Returns the name of a global.
-    pub(crate) fn global(&self, number: usize) -> &'t str {
+    /// Returns the name of a global; `?` where there is none of this number.
+    pub fn global(&self, number: usize) -> &'t str {
         self.globals
             .get(number)
             .map_or("?", |name| self.spelling(*name))
@@ -105,18 +105,22 @@ impl<'t> Names<'t> {
         (0..self.functions.len()).find(|number| self.function(*number) == name)
     }
 
-    /// Returns the name of a function's local.
-    fn local(&self, function: usize, number: usize) -> Option<&'t str> {
+    fn find_local(&self, function: usize, number: usize) -> Option<&'t str> {
         let name = self.functions.get(function)?.locals.get(number)?;
         Some(self.spelling(*name))
+    }
+
+    /// Returns the name of a function's local; `?` where there is none of this number.
+    pub fn local(&self, function: usize, number: usize) -> &'t str {
+        self.find_local(function, number).unwrap_or("?")
     }
 
     /// Returns the pseudo-register of a function, as it is shown.
     pub(crate) fn register(&self, function: usize, register: u32) -> RegisterName<'t> {
         let number = register as usize;
-        let name = self.local(function, number);
+        let name = self.find_local(function, number);
         let is_shared = name.is_none()
-            || (0..number).any(|earlier| self.local(function, earlier) == name);
+            || (0..number).any(|earlier| self.find_local(function, earlier) == name);
         RegisterName {
             name: name.unwrap_or(""),
             number: is_shared.then_some(register),

@@ -1,11 +1,9 @@
 //! Which function has too much code, for a line below the fault of a limit.
 
 use crate::build_command::builds::unit_of;
-use crate::wrong_places::function_of;
-use c_front::read;
 use mblock::{BlockNumber, Order};
 use sched_phase::schedule_plain;
-use show::order_words;
+use show::{Names, order_words};
 use std::alloc::Global;
 use text::{Page, Writer};
 
@@ -34,11 +32,9 @@ pub(crate) fn largest_line(alloc: Global, text: &[u8]) -> Option<Page> {
     let unit = unit_of(alloc, text, 1).ok()?;
     let scheduled = schedule_plain(alloc, &unit).ok()?;
     let (number, words) = most_words(unit.owner(), scheduled.orders());
-    let program = read(alloc, text).ok()?;
-    let function = function_of(&program, number.checked_sub(1)?)?;
+    let names = Names::read(alloc, text).ok()?;
+    let name = names.function(number.checked_sub(1)?);
     let mut out = Writer::new(alloc);
-    out.text("the largest function, '");
-    out.within_line(program.spelling(function.name));
-    out.put(&format_args!("', has {words} words in plain order\n"));
+    out.put(&format_args!("the largest function, '{name}', has {words} words in plain order\n"));
     out.end().ok()
 }
