@@ -1,4 +1,5 @@
 pub mod Composed
 pub mod Counts
 pub mod Halves
+pub mod NoLonger
 pub mod OneBuild

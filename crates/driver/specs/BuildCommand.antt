@@ -1,9 +1,9 @@
 -- What the command `build` asks of its files, prints, tells and ends by.
-use Rattle.std.specs.Prelude.{◌≡◌, ◌≢◌, ℕ, ◌+◌, List, [], ◌∷◌, ◌++◌, All, Bool, true, false, codes, decimal, ⊤}
-use Rattle.mblock.specs.Parts.{BlockParts, OrderParts}
+use Rattle.std.specs.Prelude.{◌≡◌, ◌≢◌, ℕ, ◌+◌, List, [], ◌∷◌, ◌++◌, All, Bool, true, false, codes, decimal}
 use Rattle.mblock.specs.declared.limits.TheConstants.{BLOCK_INSTS}
 use Rattle.image.specs.Texts.{counts_text}
 use Rattle.image.specs.Views.{counts_of}
+use Rattle.list_scheduler.specs.Proposals.{IsNoLonger}
 use Rattle.sched_phase.specs.Phases.{IsPhase}
 use Rattle.command_line.specs.declared.command.AskedBuild.{AskedBuild}
 use Rattle.host.specs.Requests.{Meaning, Request, reading_fault, writing_fault}
@@ -16,25 +16,26 @@ use Rattle.driver.specs.BuildTexts.{build_fault_text}
 use Rattle.driver.specs.Builds.{IsScheduledBuild, IsPlain}
 use Rattle.driver.specs.Follows.{FollowsText}
 use Rattle.driver.specs.BuildFaults.{IsBuildFault}
+use Rattle.driver.specs.Halves.{IsTooLongPlain}
 use Rattle.driver.specs.declared.build_command.builds.Built.{Built}
 use Rattle.driver.specs.declared.build_command.builds.BuildFault.{BuildFault}
-
--- the program's own scheduler may propose any order
-abbrev pub AnyOrder : BlockParts → OrderParts → Type 0
-AnyOrder b o = ⊤
 
 -- how many items a word of the image stands for at most: one with --plain
 abbrev pub factor_of : Bool → ℕ
 factor_of true = 1
 factor_of false = BLOCK_INSTS + 1
 
--- with --plain each block in its own order, else checked orders
+-- with --plain each block in its own order, else checked orders that are no longer
 abbrev pub IsScheduledAs : Bool → Built → Type 0
 IsScheduledAs true b = IsScheduledBuild IsPlain b
-IsScheduledAs false b = IsScheduledBuild (IsPhase AnyOrder) b
+IsScheduledAs false b = IsScheduledBuild (IsPhase IsNoLonger) b
 
 abbrev pub IsBuiltAs : List ℕ → ℕ → Bool → Built → Type 0
 IsBuiltAs text depth plain b = FollowsText text depth (factor_of plain) b.image.items × IsScheduledAs plain b
+
+-- why a text has no image, with --plain and without: it is too long only if its blocks are in their own orders
+abbrev pub IsUnbuilt : (text : List ℕ) → (depth : ℕ) → BuildFault → Type 0
+IsUnbuilt text depth fault = IsBuildFault text depth fault × IsTooLongPlain text depth fault
 
 -- the line of a build
 abbrev pub built_text : Bool → Built → List ℕ
@@ -62,7 +63,7 @@ module _ (b : AskedBuild) where
   pub data StopsBuild (silent refused : Type 0) : List Request → List ℕ → Type 0 where
     unread : (fault : FileFault) → silent
         → StopsBuild silent refused (NotRead b.source.now fault ∷ []) (host_fault_text (reading_fault fault))
-    faulty : (text : List ℕ) (fault : BuildFault) → IsBuildFault text b.depth fault → silent
+    faulty : (text : List ℕ) (fault : BuildFault) → IsUnbuilt text b.depth fault → silent
         → StopsBuild silent refused (Read b.source.now text ∷ []) (build_fault_text fault)
     unwritten : (text : List ℕ) (built : Built) → IsBuiltAs text b.depth b.plain built → (fault : FileFault) → silent
         → StopsBuild silent refused (Read b.source.now text ∷ (NotWritten b.image.now built.image.items fault ∷ []))

@@ -42,7 +42,10 @@ IsUnwritten s (faults.Limit limits.Assembly) =
 IsUnwritten s faults.NoMemory = Unit {0}
 IsUnwritten s _ = ⊥
 
--- a build with each block in its own order says that it is too long only if it is
+-- a build whose orders are as asked says that it is too long only if such orders of a unit of the text are
+abbrev pub IsTooLongAs : (Suits : ScheduledParts → Type 0) → (text : List ℕ) → (depth : ℕ) → BuildFault → Type 0
+IsTooLongAs Suits text depth fault = fault ≡ faults.Limit limits.Assembly
+    → (s : ScheduledParts) × Suits s × IsScheduled s × IsUnitOf text depth s.unit × (IsWithin (slice_index s.unit.owner) s.orders → ⊥)
+
 abbrev pub IsTooLongPlain : (text : List ℕ) → (depth : ℕ) → BuildFault → Type 0
-IsTooLongPlain text depth fault = fault ≡ faults.Limit limits.Assembly
-    → (s : ScheduledParts) × IsPlain s × IsUnitOf text depth s.unit × (IsWithin (slice_index s.unit.owner) s.orders → ⊥)
+IsTooLongPlain = IsTooLongAs IsPlain

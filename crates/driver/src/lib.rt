@@ -2,8 +2,8 @@
 //!
 //! Definitions: `specs/Follows.antt`, `specs/Builds.antt`, `specs/ImageRuns.antt`, `specs/Interps.antt`, `specs/Program.antt`.
 //! Contract: `build`, `build_one`, `build_plain`, `one_build`, `run_image`, `interp`, `list_image`, `mcc`
-//! - The headline: if `build` is Ok, the source spells a program and the bytes are an image that follows it (`follows`).
-//! - Image and report are of one scheduled unit (`scheduled`). An error is the source's own, or a limit that its counts allow.
+//! - The headline: if `build` is Ok, the source spells a program and the bytes are an image that follows it (`follows`). Its report is right.
+//! - An error is the source's own, or a limit that its counts allow. `mcc build` says that code is too long only where plain orders are.
 //! - `run_image` and `interp` give exactly the run, or the error. `interp --at` runs some RTL or unit with the source's runs.
 //! - `list_image` gives exactly the listing. With arguments that clap accepts, `mcc` asks, prints and ends as the command's own call may.
 //!

@@ -1,9 +1,10 @@
 //! A list scheduler (Gibbons and Muchnick, 1986), and delay slots filled with an instruction of the block (Gross and Hennessy, 1982). Neither
 //! is trusted: a caller checks each order against its block. `Hostile` proposes wrong ones.
 //!
-//! Contract: `Reorder`, `ListOrder`, `FilledOrder`
+//! Definitions: `specs/Proposals.antt`.
+//! Contract: `Reorder`, `FilledOrder`
 //! - A `Reorder` returns, and its answer is one that its `proposes` allows.
-//! - For the schedulers here that is any order.
+//! - `FilledOrder` proposes none that is longer than the plain one, the others any.
 //!
 //! | Tested | In |
 //! |---|---|

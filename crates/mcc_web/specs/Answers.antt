@@ -2,8 +2,9 @@
 use Rattle.std.specs.Prelude.{◌≡◌, ◌<◌, ◌≤◌, ℕ, List, ◌∷◌, ◌++◌, Bool, true, false, All, length, take}
 use Rattle.text.specs.Shown.{IsShown}
 use Rattle.host.specs.OneFile.{FileMeaning}
+use Rattle.list_scheduler.specs.Proposals.{IsNoLonger}
 use Rattle.sched_phase.specs.Phases.{IsWholePhase}
-use Rattle.driver.specs.BuildCommand.{AnyOrder, built_text, factor_of}
+use Rattle.driver.specs.BuildCommand.{built_text, factor_of}
 use Rattle.driver.specs.BuildTexts.{build_fault_text}
 use Rattle.driver.specs.Builds.{IsPlain, IsScheduledBuild}
 use Rattle.driver.specs.BuildFaults.{IsBuildFault}
@@ -43,10 +44,10 @@ pub record SaysAnswer {A B : Type 0} (m : FileMeaning A B) (bytes : List ℕ) (s
 abbrev pub SaysFaultOf : {A B : Type 0} → FileMeaning A B → (bytes : List ℕ) → (said : ℕ) → (old new : List ℕ) → Type 0
 SaysFaultOf m bytes = SaysFault (m.Faults bytes) m.line
 
--- with `plain` each block in its own order, else checked orders; no block is missed
+-- with `plain` each block in its own order, else checked orders that are no longer; no block is missed
 abbrev pub IsScheduledAs : Bool → Built → Type 0
 IsScheduledAs true b = IsScheduledBuild IsPlain b
-IsScheduledAs false b = IsScheduledBuild (IsWholePhase AnyOrder) b
+IsScheduledAs false b = IsScheduledBuild (IsWholePhase IsNoLonger) b
 
 -- `build`: its line, and after it the bytes of an image that follows the program
 pub record SaysImage (text : List ℕ) (depth : ℕ) (plain : Bool) (said : ℕ) (old new : List ℕ) : Type 0 where

@@ -8,7 +8,7 @@ use Rattle.mblock.specs.Orders.{AreOrders}
 use Rattle.block_text.specs.Spelling.{exit_text}
 use Rattle.sched_phase.specs.Phases.{IsWholePhase}
 use Rattle.sched_phase.specs.Schedules.{ScheduledParts}
-use Rattle.driver.specs.BuildCommand.{AnyOrder}
+use Rattle.list_scheduler.specs.Proposals.{IsNoLonger}
 use Rattle.driver.specs.Halves.{IsUnitOf}
 use Rattle.mcc_web.specs.Answers.{Gives}
 
@@ -33,11 +33,11 @@ abbrev pub pairs_text : (number : ℕ) → List ℕ → List BlockParts → List
 pairs_text number (w ∷ ws) (b ∷ bs) (o ∷ os) = pair_text number w b o ++ pairs_text (number + 1) ws bs os
 pairs_text number _ _ _ = []
 
--- a scheduled unit of the program that the text spells: each block with a checked order, or the plain one
+-- a scheduled unit of the program that the text spells: each block with a checked order that is no longer than the plain one, or that
 pub record SaysOrders (text : List ℕ) (depth : ℕ) (status said : ℕ) (old new : List ℕ) : Type 0 where
   pub scheduled : ScheduledParts
   pub of_text : IsUnitOf text depth scheduled.unit
   pub are_orders : AreOrders scheduled.unit.blocks scheduled.orders
-  pub phase : IsWholePhase AnyOrder scheduled
+  pub phase : IsWholePhase IsNoLonger scheduled
   pub ends : status ≡ 0
   pub gives : Gives (pairs_text 0 scheduled.unit.owner scheduled.unit.blocks scheduled.orders) said old new

@@ -8,9 +8,8 @@ ghost use Rattle.c_types.specs.Shape.{program_of};
 ghost use Rattle.c_types.specs.Typed.{SpellsTyped};
 ghost use Rattle.text.specs.Shown.{IsTold};
 ghost use Rattle.driver.specs.BuildTexts.{build_fault_text};
-ghost use Rattle.driver.specs.BuildFaults.{IsBuildFault};
 ghost use Rattle.driver.specs.Halves.{IsUnitOf};
-ghost use Rattle.driver.specs.BuildCommand.{IsBuiltAs, apart_meaning, build_meaning, built_text};
+ghost use Rattle.driver.specs.BuildCommand.{IsBuiltAs, IsUnbuilt, apart_meaning, build_meaning, built_text};
 
 use crate::build_command::builds::{BuildFault, Built, Limit, front_of, unit_of_typed, write};
 use crate::build_command::largest::largest_line;
@@ -115,7 +114,7 @@ fn ordered_as_asked<T: Threads + Wait + Sync>(
     asked: &AskedBuild<'_>,
 ) -> Result<Built, BuildFault>
     ensures built { IfOk result (λ b. (text : List ℕ) → IsUnitOf text asked.now.depth unit.now → IsBuiltAs text asked.now.depth asked.now.plain b) }
-    ensures fault { IfErr result (λ f. (text : List ℕ) → IsUnitOf text asked.now.depth unit.now → IsBuildFault text asked.now.depth f) }
+    ensures fault { IfErr result (λ f. (text : List ℕ) → IsUnitOf text asked.now.depth unit.now → IsUnbuilt text asked.now.depth f) }
 {
     if asked.plain {
         let scheduled = schedule_plain(alloc, unit)?;
@@ -142,7 +141,7 @@ fn built_as_asked<T: Threads + Wait + Sync>(
 ) -> Result<Built, BuildFault>
     ensures built { IfOk result (λ b. (text : List ℕ) → SpellsTyped text (program_of typed.now)
         → IsBuiltAs text asked.now.depth asked.now.plain b) }
-    ensures fault { IfErr result (λ f. (text : List ℕ) → SpellsTyped text (program_of typed.now) → IsBuildFault text asked.now.depth f) }
+    ensures fault { IfErr result (λ f. (text : List ℕ) → SpellsTyped text (program_of typed.now) → IsUnbuilt text asked.now.depth f) }
 {
     let unit = unit_of_typed(alloc, typed, asked.depth)?;
     let built = ordered_as_asked(rt, alloc, &unit, asked);
@@ -159,7 +158,7 @@ fn built_with_warnings<T: Threads + Wait + Sync>(
     asked: &AskedBuild<'_>,
 ) -> Result<(Built, Page), BuildFault>
     ensures built { IfOk result (λ both. IsBuiltAs text.now asked.now.depth asked.now.plain both.0) }
-    ensures fault { IfErr result (IsBuildFault text.now asked.now.depth) }
+    ensures fault { IfErr result (IsUnbuilt text.now asked.now.depth) }
 {
     let (program, typed) = front_of(alloc, text)?;
     let warnings = warning_lines(alloc, asked.source, text, &program, &typed);

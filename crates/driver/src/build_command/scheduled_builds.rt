@@ -5,6 +5,7 @@ ghost use Rattle.sched_phase.specs.Phases.{IsPhase, IsWholePhase};
 ghost use Rattle.driver.specs.Builds.{IsScheduledBuild};
 ghost use Rattle.driver.specs.Follows.{FollowsText};
 ghost use Rattle.driver.specs.BuildFaults.{IsBuildFault};
+ghost use Rattle.driver.specs.Halves.{IsTooLongAs};
 ghost use Rattle.term_table.specs.Passes.{InRange};
 
 use crate::build_command::builds::{BuildFault, Built, unit_of, write};
@@ -65,6 +66,7 @@ pub fn build<T: Threads + Wait + Sync, R: Reorder + Sync, G: Gate + Sync>(
     ensures follows { IfOk result (λ b. FollowsText text.now options.now.depth (BLOCK_INSTS + 1) b.image.items) }
     ensures scheduled { IfOk result (IsScheduledBuild (IsPhase (R.proposes reorder.now))) }
     ensures fault { IfErr result (IsBuildFault text.now options.now.depth) }
+    ensures too_long { IfErr result (IsTooLongAs (IsPhase (R.proposes reorder.now)) text.now options.now.depth) }
 {
     let unit = unit_of(alloc, text, options.depth)?;
     let scheduled = schedule_all(rt, alloc, &unit, options.phase, reorder, gate)?;
@@ -82,6 +84,7 @@ pub fn build_one<R: Reorder>(
     ensures follows { IfOk result (λ b. FollowsText text.now options.now.depth (BLOCK_INSTS + 1) b.image.items) }
     ensures scheduled { IfOk result (IsScheduledBuild (IsWholePhase (R.proposes reorder.now))) }
     ensures fault { IfErr result (IsBuildFault text.now options.now.depth) }
+    ensures too_long { IfErr result (IsTooLongAs (IsWholePhase (R.proposes reorder.now)) text.now options.now.depth) }
 {
     let unit = unit_of(alloc, text, options.depth)?;
     let scheduled = schedule_one(alloc, &unit, options.phase, reorder)?;

@@ -1,5 +1,5 @@
 use Rattle.std.proofs.lemmas.Result.{IfOk-weaker, IfErr-weaker}
-use Rattle.driver.proofs.build_command.Halves.{plain_as_asked, scheduled_as_asked, unwritten}
+use Rattle.driver.proofs.build_command.Halves.{plain_as_asked, plain_unbuilt, scheduled_as_asked, scheduled_unbuilt}
 use Rattle.driver.proofs.build_command.build_commands.ordered_as_asked.Goals as goal
 
 pub returns-in_ok-scheduled-clause-built : goal.returns-in_ok-scheduled-clause-built
@@ -10,7 +10,8 @@ returns-in_ok-scheduled-clause-built g c =
 
 pub returns-in_ok-scheduled-clause-fault : goal.returns-in_ok-scheduled-clause-fault
 returns-in_ok-scheduled-clause-fault g c =
-    IfErr-weaker _ _ _ (unwritten _ c.in_ok-scheduled.ensures.unit) c.write-built.ensures.fault
+    let scheduled = c.in_ok-scheduled.ensures in
+    IfErr-weaker _ _ _ (plain_unbuilt _ scheduled.unit (record { orders = scheduled.plain; report = scheduled.report })) c.write-built.ensures.fault
 
 pub returns-in_ok-scheduled-2-clause-built : goal.returns-in_ok-scheduled-2-clause-built
 returns-in_ok-scheduled-2-clause-built g c =
@@ -19,4 +20,5 @@ returns-in_ok-scheduled-2-clause-built g c =
 
 pub returns-in_ok-scheduled-2-clause-fault : goal.returns-in_ok-scheduled-2-clause-fault
 returns-in_ok-scheduled-2-clause-fault g c =
-    IfErr-weaker _ _ _ (unwritten _ c.in_ok-scheduled-2.ensures.unit) c.write-built-else-asked.ensures.fault
+    let scheduled = c.in_ok-scheduled-2.ensures in
+    IfErr-weaker _ _ _ (scheduled_unbuilt _ scheduled.unit scheduled.phase) c.write-built-else-asked.ensures.fault

@@ -1,6 +1,6 @@
 use Rattle.std.proofs.lemmas.Result.{IfOk-weaker, IfErr-weaker}
 use Rattle.driver.specs.Builds.{IsPlain, IsScheduledBuild}
-use Rattle.driver.proofs.build_command.Halves.{followed_text, too_long_plain, unwritten}
+use Rattle.driver.proofs.build_command.Halves.{followed_text, too_long, unwritten}
 use Rattle.driver.proofs.build_command.builds.build_plain.Goals as goal
 
 pub returns-clause-follows : goal.returns-clause-follows
@@ -17,7 +17,7 @@ returns-clause-scheduled c =
 pub returns-clause-too_long : goal.returns-clause-too_long
 returns-clause-too_long c =
     let scheduled = c.in_ok-scheduled.ensures in
-    IfErr-weaker _ _ _ (too_long_plain _ scheduled.unit (record { orders = scheduled.plain; report = scheduled.report }) c.in_ok-unit.ensures.unit)
+    IfErr-weaker _ _ _ (too_long _ scheduled.unit (record { orders = scheduled.plain; report = scheduled.report }) c.in_ok-unit.ensures.unit)
     c.write.ensures.fault
 
 pub returns-clause-fault : goal.returns-clause-fault
