@@ -1,5 +1,5 @@
 use Rattle.std.proofs.Common.{ne_eqb, arith}
-use Rattle.sym_exec.proofs.Tickets.{still_seen, still_tree, goes_on, goes_more, interns_by, address-later, sum-reached}
+use Rattle.sym_exec.proofs.Tickets.{still_seen, still_tree, address-later, sum-reached}
 use Rattle.sym_exec.proofs.address.reach.Goals as goal
 
 pub returns-then-offset-eq0-clause-at : goal.returns-then-offset-eq0-clause-at
@@ -10,9 +10,6 @@ returns-then-offset-eq0-clause-seen c = still_seen c.address_at-at.ensures.pass.
 
 pub returns-then-offset-eq0-clause-tree : goal.returns-then-offset-eq0-clause-tree
 returns-then-offset-eq0-clause-tree c = λ x h. still_tree c.address_at-at.ensures.pass.later.extends (c.in_ok-address.ensures.tree x h)
-
-pub returns-then-offset-eq0-clause-pass : goal.returns-then-offset-eq0-clause-pass
-returns-then-offset-eq0-clause-pass c = interns_by (goes_more (goes_on c.in_ok-address.ensures.pass) c.address_at-at.ensures.pass) tt
 
 pub returns-clause-at : goal.returns-clause-at
 returns-clause-at c =

@@ -1,10 +1,10 @@
-use Rattle.std.proofs.Common.{map, refl, rules, arith}
+use Rattle.std.proofs.Common.{map, refl, arith}
 use Rattle.mips_isa.specs.Actions.{action_of}
 use Rattle.mblock.specs.Clean.{slot_actions}
 use Rattle.mblock.specs.BlockMeaning.{exit_shape}
 use Rattle.sym_exec.specs.Asked.{asked_by_all, asked_by_shape}
 use Rattle.sym_exec.proofs.Chains.{chain-on}
-use Rattle.sym_exec.proofs.Tickets.{later_more, goes_on, goes_more, interns_by, hold_on, guards_on, leaves_on, err_always, lacks_here, lacks_left, lacks_right}
+use Rattle.sym_exec.proofs.Tickets.{later_more, hold_on, guards_on, leaves_on, err_always, lacks_here, lacks_left, lacks_right}
 use Rattle.sym_exec.proofs.Tracking.{needed_few, tracks_on}
 use Rattle.sym_exec.proofs.run.finish.Goals as goal
 
@@ -23,25 +23,6 @@ returns-clause-trees c = λ s h.
 
 pub run_slot-requires-clause-chain : goal.run_slot-requires-clause-chain
 run_slot-requires-clause-chain c = chain-on c.in_ok-put_own.ensures.pass.later c.in_ok-steps.ensures.chain
-
-pub returns-in_err-put_own-clause-pass : goal.returns-in_err-put_own-clause-pass
-returns-in_err-put_own-clause-pass c =
-    interns_by (goes_more (goes_on c.in_ok-steps.ensures.pass) (goes_on c.in_err-put_own.ensures.pass)) (search rules)
-
-pub returns-in_err-run_slot-clause-pass : goal.returns-in_err-run_slot-clause-pass
-returns-in_err-run_slot-clause-pass c =
-    let left = goes_more (goes_on c.in_ok-steps.ensures.pass) (goes_on c.in_ok-put_own.ensures.pass) in
-    interns_by (goes_more left (goes_on c.in_err-run_slot.ensures.pass)) (search rules)
-
-pub returns-in_err-memory-clause-pass : goal.returns-in_err-memory-clause-pass
-returns-in_err-memory-clause-pass c =
-    let left = goes_more (goes_on c.in_ok-steps.ensures.pass) (goes_more (goes_on c.in_ok-put_own.ensures.pass) (goes_on c.in_ok-run_slot.ensures.pass)) in
-    interns_by (goes_more left (goes_on c.in_err-memory.ensures.pass)) (search rules)
-
-pub returns-clause-pass : goal.returns-clause-pass
-returns-clause-pass c =
-    let left = goes_more (goes_on c.in_ok-steps.ensures.pass) (goes_more (goes_on c.in_ok-put_own.ensures.pass) (goes_on c.in_ok-run_slot.ensures.pass)) in
-    interns_by (goes_more left (goes_on c.in_ok-memory.ensures.pass)) tt
 
 pub returns-in_err-steps-clause-absent : goal.returns-in_err-steps-clause-absent
 returns-in_err-steps-clause-absent c = λ s h. err_always _ (lacks_left _ (c.in_err-steps.ensures.absent s h))

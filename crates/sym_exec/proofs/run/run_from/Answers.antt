@@ -3,9 +3,6 @@ use Rattle.sym_exec.specs.Symbolic.{start_trees}
 use Rattle.sym_exec.proofs.Tickets.{on_err_weaker, lacks_right}
 use Rattle.sym_exec.proofs.run.run_from.Goals as goal
 
-pub returns-clause-trees : goal.returns-clause-trees
-returns-clause-trees c = c.finish.ensures.trees start_trees (c.begin-registers.ensures.tracks _ c.requires.start)
-
 pub returns-clause-absent : goal.returns-clause-absent
 returns-clause-absent c =
     on_err_weaker c.finish.result (lacks_right asked_first) (c.finish.ensures.absent start_trees (c.begin-registers.ensures.tracks _ c.requires.start))

@@ -1,5 +1,4 @@
-use Rattle.std.proofs.Common.{rules}
-use Rattle.sym_exec.proofs.Tickets.{goes_on, goes_more, interns_by, hold_on, known_on, err_always, lacks_here}
+use Rattle.sym_exec.proofs.Tickets.{hold_on, known_on, err_always, lacks_here}
 use Rattle.sym_exec.specs.Asked.{asked_first}
 use Rattle.sym_exec.proofs.run.start.Goals as goal
 
@@ -9,12 +8,6 @@ returns-clause-start c = record {
   hold = hold_on c.in_ok-memory.ensures.pass.later c.in_ok-regs.ensures.hold;
   memory = c.in_ok-memory.ensures.tree;
 }
-
-pub returns-clause-pass : goal.returns-clause-pass
-returns-clause-pass c = interns_by (goes_more (goes_on c.in_ok-regs.ensures.pass) (goes_on c.in_ok-memory.ensures.pass)) tt
-
-pub returns-in_err-memory-clause-pass : goal.returns-in_err-memory-clause-pass
-returns-in_err-memory-clause-pass c = interns_by (goes_more (goes_on c.in_ok-regs.ensures.pass) (goes_on c.in_err-memory.ensures.pass)) (search rules)
 
 pub returns-in_err-memory-clause-absent : goal.returns-in_err-memory-clause-absent
 unfolding asked_first

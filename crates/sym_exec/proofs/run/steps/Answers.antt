@@ -1,8 +1,8 @@
-use Rattle.std.proofs.Common.{◌∙◌, ◌+◌, map, drop, take, true, false, arith, sym, ap, length-take, rules}
+use Rattle.std.proofs.Common.{◌∙◌, ◌+◌, map, drop, take, true, false, arith, sym, ap, length-take}
 use Rattle.mips_isa.specs.Actions.{nop, action_of}
 use Rattle.sym_exec.specs.Growth.{growth_by_all, all_stores}
 use Rattle.sym_exec.proofs.Tracking.{nop_is, needed_more, needed_few, actions_here}
-use Rattle.sym_exec.proofs.Tickets.{goes_on, goes_more, err_always, lacks_left, lacks_right, interns_by}
+use Rattle.sym_exec.proofs.Tickets.{goes_on, goes_more, err_always, lacks_left, lacks_right}
 use Rattle.sym_exec.specs.Asked.{asked_by}
 use Rattle.sym_exec.proofs.run.steps.Goals as goal
 
@@ -54,11 +54,3 @@ returns-in_err-step-clause-absent c = λ t h.
     let here = actions_here c.args.insts.now c.loop-inst.inst-index c.loop-inst-test.true c.inst-item.is c.action.ensures in
     let far = rw here at (c.loop-inst.invariant.tracks t h) in
     err_always _ (far.3 c.step.new.terms.pass.now (lacks_left _ (c.in_err-step.ensures.absent far.0 far.1)))
-
-pub returns-in_err-step-clause-grows : goal.returns-in_err-step-clause-grows
-returns-in_err-step-clause-grows c =
-    let here = actions_here c.args.insts.now c.loop-inst.inst-index c.loop-inst-test.true c.inst-item.is c.action.ensures in
-    omega (arith, rw here at c.loop-inst.invariant.grows, c.in_err-step.ensures.grows)
-
-pub returns-in_err-step-clause-pass : goal.returns-in_err-step-clause-pass
-returns-in_err-step-clause-pass c = interns_by (goes_more c.loop-inst.invariant.goes (goes_on c.in_err-step.ensures.pass)) (search rules)

@@ -1,12 +1,9 @@
-use Rattle.std.proofs.Common.{◌≡◌, ◌∙◌, [], take, length, true, false, refl, sym, rules}
+use Rattle.std.proofs.Common.{◌≡◌, ◌∙◌, take, length, true, false, refl, rules}
 use Rattle.std.proofs.Math.Seq.{take-append_seam}
-use Rattle.std.proofs.lemmas.List.{append-nil, nil_from_length}
+use Rattle.std.proofs.lemmas.List.{nil_from_length}
 use Rattle.sym_terms.specs.NormalForms.{load_tree}
 use Rattle.sym_exec.proofs.Chains.{load-at, walk-on}
 use Rattle.sym_exec.proofs.stores.stores_seen.Goals as goal
-
-pub loop-last-init : goal.loop-last-init
-loop-last-init c = record { outer = []; parts = sym (append-nil c.args.stores.now); trees = λ p m b legal made at. (m, made, refl) }
 
 pub returns-then-not-is_passed-clause-tree : goal.returns-then-not-is_passed-clause-tree
 returns-then-not-is_passed-clause-tree c = λ p m b legal made at.

@@ -1,13 +1,5 @@
-use Rattle.std.proofs.Common.{rules, ◌≡◌, refl, sym, ap}
-use Rattle.sym_exec.proofs.Tickets.{hold_on, known_on, known_put, hold_put, hold_same}
-use Rattle.mips_isa.specs.States.{is_register}
-use Rattle.mips_isa.proofs.Registers.{put_lost}
+use Rattle.sym_exec.proofs.Tickets.{hold_on, known_on, known_put, hold_put}
 use Rattle.sym_exec.proofs.registers.TermRegisters.computes.Goals as goal
-
-pub returns-then-index-eq0-clause-hold : goal.returns-then-index-eq0-clause-hold
-returns-then-index-eq0-clause-hold c = λ t h.
-    let none : c.args.d ≡ 0 = search rules in
-    hold_same {t = t} h (sym (put_lost t.regs c.args.d _ (ap is_register none))) refl refl
 
 pub returns-clause-known : goal.returns-clause-known
 returns-clause-known c =

@@ -1,5 +1,4 @@
-use Rattle.std.proofs.Common.{refl, rules}
-use Rattle.sym_exec.proofs.Tickets.{goes_on, goes_more, interns_by}
+use Rattle.std.proofs.Common.{refl}
 use Rattle.sym_exec.proofs.Tickets.{still_tree, later_more, hold_on, known_on, known_put, hold_put, hold_same, err_always, lacks_here, lacks_next}
 use Rattle.sym_exec.specs.Symbolic.{address_tree}
 use Rattle.sym_exec.proofs.Chains.{chain-on, memory-on}
@@ -33,9 +32,3 @@ returns-in_err-value-clause-absent c = λ t h m.
     let address = address_tree t c.args.access.base c.args.access.offset in
     err_always _ (lacks_next address (lacks_here (c.in_err-value.ensures.absent t.memory address
     (memory-on c.in_ok-address.ensures.pass.later c.args.chain.now.stores.items t.memory m) (c.in_ok-address.ensures.tree t h))))
-
-pub returns-in_err-value-clause-pass : goal.returns-in_err-value-clause-pass
-returns-in_err-value-clause-pass c = interns_by (goes_more (goes_on c.in_ok-address.ensures.pass) (goes_on c.in_err-value.ensures.pass)) (search rules)
-
-pub returns-clause-pass : goal.returns-clause-pass
-returns-clause-pass c = interns_by (goes_more (goes_on c.in_ok-address.ensures.pass) (goes_on c.in_ok-value.ensures.pass)) tt

@@ -1,5 +1,3 @@
-use Rattle.std.proofs.Common.{rules}
-use Rattle.sym_exec.proofs.Tickets.{goes_on, goes_more, interns_by}
 use Rattle.sym_exec.proofs.Tickets.{still_seen, still_tree, later_more, hold_on, known_on, get_seen, get_tree, err_always, lacks_here, lacks_next}
 use Rattle.sym_exec.specs.Standing.{with_halves}
 use Rattle.sym_exec.proofs.registers.TermRegisters.put_halves.Goals as goal
@@ -39,9 +37,3 @@ returns-in_err-lo-clause-absent c = λ t h.
     let on = c.in_ok-hi.ensures.pass.later.extends in
     err_always _ (lacks_next (with_halves c.args.high c.args.low c.args.a c.args.b t).hi
     (lacks_here (c.in_err-lo.ensures.absent _ _ (still_tree on x) (still_tree on y))))
-
-pub returns-in_err-lo-clause-pass : goal.returns-in_err-lo-clause-pass
-returns-in_err-lo-clause-pass c = interns_by (goes_more (goes_on c.in_ok-hi.ensures.pass) (goes_on c.in_err-lo.ensures.pass)) (search rules)
-
-pub returns-clause-pass : goal.returns-clause-pass
-returns-clause-pass c = interns_by (goes_more (goes_on c.in_ok-hi.ensures.pass) (goes_on c.in_ok-lo.ensures.pass)) tt

@@ -1,6 +1,6 @@
 use Rattle.sym_terms.specs.declared.label.Label.TheVariants.{Load}
 use Rattle.sym_terms.specs.Trees.{none, more}
-use Rattle.sym_exec.proofs.Tickets.{still_tree, still_seen, err_always, goes_on, goes_more, interns_by}
+use Rattle.sym_exec.proofs.Tickets.{still_tree, still_seen, err_always}
 use Rattle.sym_exec.proofs.Chains.{chain-on}
 use Rattle.sym_exec.proofs.Parts.{lacks_first}
 use Rattle.sym_exec.proofs.stores.StoreChain.load_term.Goals as goal
@@ -31,7 +31,3 @@ returns-clause-absent c = λ m b h k.
     (rw c.as_slice.ensures.value h) (c.requires.at b k) in
     let made = rw c.as_slice.ensures.value at n.1 in
     rw n.2 (c.binary.ensures.absent n.0 b (c.in_ok-memory.ensures.tree n.0 made) (still_tree c.in_ok-memory.ensures.pass.later.extends k))
-
-pub returns-clause-pass : goal.returns-clause-pass
-returns-clause-pass c =
-    interns_by (goes_more (goes_on c.in_ok-memory.ensures.pass) (goes_on c.binary.ensures.pass)) c.binary.ensures.pass.full

@@ -1,6 +1,6 @@
 use Rattle.std.proofs.Common.{◌-◌, ◌<◌, take, length, suc, refl, arith, rules}
 use Rattle.std.proofs.lemmas.List.{get_or_default}
-use Rattle.sym_exec.proofs.Tickets.{tree_seen, goes_on, goes_more, err_always, interns_by}
+use Rattle.sym_exec.proofs.Tickets.{tree_seen, goes_on, goes_more, err_always}
 use Rattle.sym_exec.proofs.Chains.{lacks_behind, chain-on, chain-next, chain-push, memory-on}
 use Rattle.sym_exec.proofs.stores.StoreChain.memory_behind.Goals as goal
 
@@ -49,6 +49,3 @@ returns-in_err-memory-clause-absent c = λ t made.
     let low : k < c.args.count = search rules in
     err_always _ (lacks_behind c.loop-self.terms.pass.now c.ternary.new.self.pass.now next.1 (suc k) c.args.count
     c.loop-self.self.stores.items t low next.2 (rw next.4.tree lacks) here)
-
-pub returns-in_err-memory-clause-pass : goal.returns-in_err-memory-clause-pass
-returns-in_err-memory-clause-pass c = interns_by (goes_more c.loop-self.invariant.goes (goes_on c.in_err-memory.ensures.pass)) (search rules)
