@@ -1,5 +1,5 @@
 -- What the command `run` asks of its file, prints, tells and ends by.
-use Rattle.std.specs.Prelude.{◌≡◌, ◌⊎◌, ℕ, ◌≤◌, List, [], ◌∷◌, ◌++◌, ◌==◌, decimal, All, Bool, Option, codes, nat_lt, if◌then◌else◌, true}
+use Rattle.std.specs.Prelude.{◌≡◌, ◌⊎◌, ℕ, List, [], ◌∷◌, ◌++◌, ◌==◌, decimal, All, Bool, Option, codes, nat_lt, if◌then◌else◌, true}
 use Rattle.std.specs.List.{flat_map}
 use Rattle.image.specs.Texts.{image_fault_text}
 use Rattle.image.specs.Images.{IsImageFault}

@@ -19,14 +19,11 @@ use Rattle.mips_emit.specs.declared.comparison.Comparison.{Comparison}
 use Rattle.mips_emit.specs.declared.facts.Last.{Last}
 use Rattle.mips_emit.specs.Locations.{Locations, Facts, locations, learned, operand}
 use Rattle.mips_emit.specs.declared.element.Reach.{Reach}
-use Rattle.mips_emit.specs.Code.{fetch, bring, carry, put_at, arrive}
+use Rattle.mips_emit.specs.Code.{fetch, bring, carry, put_at, arrive, Context, op_code, element_code, inst_code, arguments_code}
 use Rattle.mips_emit.specs.declared.operation.Operand.{Operand}
-use Rattle.mips_emit.specs.Code.{Context, op_code, element_code}
-use Rattle.mips_emit.specs.Code.{inst_code, arguments_code}
 use Rattle.mips_emit.specs.Comparisons.{next_code, insts_code}
 use Rattle.mips_select.specs.declared.prologue.Direction.{Direction}
-use Rattle.mips_select.specs.Code.{frame_words, stack_step}
-use Rattle.mips_select.specs.Code.{parameters_code, prologue, epilogue, exit_code, result_code}
+use Rattle.mips_select.specs.Code.{frame_words, stack_step, parameters_code, prologue, epilogue, exit_code, result_code}
 use Rattle.mips_select.specs.Emittable.{HasFewArguments}
 
 -- ---- operands and results

@@ -23,8 +23,7 @@ use Rattle.mips_select.proofs.Places.{HasAt, has_whole, has_head, has_tail, has_
 use Rattle.mips_select.specs.declared.heads.Head.{Head}
 use Rattle.mips_select.specs.declared.heads.Head.TheVariants.{Bare, Enters, Takes}
 use Rattle.mips_select.specs.Limits.{largest_frame, FramesFit}
-use Rattle.mips_select.specs.Heads.{calls_none, is_leaf, unnamed, heads_of, count, lead_in, naming_with_call, note, namings}
-use Rattle.mips_select.specs.Heads.{heads_in}
+use Rattle.mips_select.specs.Heads.{calls_none, is_leaf, unnamed, heads_of, count, lead_in, naming_with_call, note, namings, heads_in}
 use Rattle.mips_select.specs.Plans.{Linking, Planning}
 use Rattle.mips_select.specs.Code.{prologue, head_code, own_block, prologue_block}
 use Rattle.mips_select.specs.Whole.{numbers, next_of, behind, blocks_from, place_in, lead_blocks, planning_in, function_blocks}

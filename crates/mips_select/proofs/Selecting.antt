@@ -1,6 +1,5 @@
 -- The parts of a program's unit, put together.
-use Rattle.std.proofs.Common.{◌≡◌, ℕ, ◌+◌, ◌<◌, ◌≤◌, List, length, length-append, Some, refl, sym, ap, subst}
-use Rattle.std.proofs.Common.{◌∙◌, arith, Result, IfErr}
+use Rattle.std.proofs.Common.{◌≡◌, ℕ, ◌+◌, ◌<◌, ◌≤◌, List, length, length-append, Some, refl, sym, ap, subst, ◌∙◌, arith, Result, IfErr}
 use Rattle.std.specs.Prelude.{All, slice_get}
 use Rattle.std.proofs.lemmas.List.Sums.{get_or-le-sum_by}
 use Rattle.std.proofs.lemmas.Option.{get_or_from_slice_get, slice_get_within}

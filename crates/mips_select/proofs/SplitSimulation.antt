@@ -1,7 +1,6 @@
 -- The pieces of a unit do what the unit does, whatever the links.
 use Rattle.std.proofs.Common.{◌≡◌, ℕ, zero, suc, ◌+◌, ◌<◌, ◌≤◌, ◌==◌, Bool, true, false, List, [], ◌∷◌, ◌++◌, length, Option, Some, None}
-use Rattle.std.proofs.Common.{refl, sym, ap, ◌∙◌}
-use Rattle.std.proofs.Common.{arith, drop}
+use Rattle.std.proofs.Common.{refl, sym, ap, ◌∙◌, arith, drop}
 use Rattle.std.specs.Prelude.{if◌then◌else◌, slice_get, slice_index, option_map}
 use Rattle.std.proofs.lemmas.List.{append-nil, take-append-drop}
 use Rattle.std.proofs.lemmas.Option.{none-some, slice_get_within}
@@ -15,8 +14,7 @@ use Rattle.mblock.specs.declared.exit.Exit.TheVariants.{Goto, BranchPair, Branch
 use Rattle.mblock.specs.Parts.{BlockParts}
 use Rattle.mblock.specs.BlockMeaning.{exit_effect}
 use Rattle.mblock.specs.UnitRuns.{wrong, call_return_of, return_block_of, outcome_at_block, outcome_at_return, exit_item, items, unit_run}
-use Rattle.mblock.specs.UnitRuns.{Next, is_call}
-use Rattle.mblock.specs.UnitRuns.{TellsApart, ComesTo}
+use Rattle.mblock.specs.UnitRuns.{Next, is_call, TellsApart, ComesTo}
 use Rattle.mblock.specs.Units.{GoesBelow, AreLinked}
 use Rattle.mips_select.specs.Split.{renumbered_exit, more_pieces, piece, pieces, count_of, lasts, split_from, first_piece_of, last_of, split_at_most}
 use Rattle.mips_select.proofs.Places.{HasAt, has_head, has_tail, has_whole, has_pieces, last_piece, block_there, last_there, last_apart}

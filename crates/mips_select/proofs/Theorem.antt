@@ -1,6 +1,5 @@
 -- The blocks that stand for a program keep its runs, and so does its unit.
-use Rattle.std.proofs.Common.{◌≡◌, ◌≢◌, ℕ, ◌+◌, ◌%◌, ◌^◌, ◌<◌, ◌≤◌, List, [], ◌∷◌, map}
-use Rattle.std.proofs.Common.{length, Some, None, refl, sym, ap, ◌∙◌, arith}
+use Rattle.std.proofs.Common.{◌≡◌, ◌≢◌, ℕ, ◌+◌, ◌%◌, ◌^◌, ◌<◌, ◌≤◌, List, [], ◌∷◌, map, length, Some, None, refl, sym, ap, ◌∙◌, arith}
 use Rattle.std.specs.Prelude.{slice_get}
 use Rattle.std.proofs.lemmas.Bool.Decides.{nat_tests}
 use Rattle.std.proofs.lemmas.Option.{same_Some, none-some, slice_get_within, get_or_from_slice_get}
@@ -21,8 +20,7 @@ use Rattle.mblock.proofs.StateWords.{run_words}
 use Rattle.rtl.specs.declared.block.RFunc.{RFunc}
 use Rattle.rtl.specs.declared.block.RGlobal.{RGlobal}
 use Rattle.rtl.specs.Meaning.{first_values, rtl_run}
-use Rattle.mips_homes.specs.HomedRun.{Run, Running, Ended, Failed, registers_at_entry, homed_steps}
-use Rattle.mips_homes.specs.HomedRun.{homed_start, homed_run, outcome}
+use Rattle.mips_homes.specs.HomedRun.{Run, Running, Ended, Failed, registers_at_entry, homed_steps, homed_start, homed_run, outcome}
 use Rattle.mips_homes.proofs.Located.{places_keep_runs}
 use Rattle.mips_homes.specs.declared.homed.Homed.{Homed}
 use Rattle.mips_emit.specs.Elements.{width_of, element_place, address_of_place, data_middle}

@@ -15,8 +15,7 @@ use Rattle.term_core.specs.declared.Stage.{Stage}
 use Rattle.term_core.specs.declared.Stage.TheVariants.{AtLink, Writing, Linking}
 use Rattle.term_core.specs.declared.Walker.{Walker}
 use Rattle.term_core.specs.Terms.{StartsWith, Pair, pairs_of}
-use Rattle.term_core.specs.World.{Shape, IsShape, World, Item, place, place_at, becomes_at, link_of, step_start, is_idle, does, steps}
-use Rattle.term_core.specs.World.{world_of}
+use Rattle.term_core.specs.World.{Shape, IsShape, World, Item, place, place_at, becomes_at, link_of, step_start, is_idle, does, steps, world_of}
 use Rattle.term_core.specs.Items.{link_loads, Does, EachItemDoes, OthersStand, SeenAgree, Links, Writes, WordsStay}
 use Rattle.term_core.proofs.Replay.{cond_has}
 use Rattle.term_core.proofs.Chains.{at_same, at_other, set_itself}

@@ -25,8 +25,7 @@ use Rattle.term_core.specs.World.{turn_of_exchange, content, hit, answer_of, kid
 use Rattle.term_core.proofs.Replay.{IsThere, eqb_has, one_of, past, calls_append}
 use Rattle.term_core.proofs.Chains.{mem_left, mem_here, mem_cases, end_snoc, linked_none, linked_some, linked_frame, at_same, at_other}
 use Rattle.term_core.proofs.Kept.{word, SameAs, Alike, alike_more, OnLink, OnContent, OnWriting, OnReading, Spot, Stands, Inv, Outside}
-use Rattle.term_core.proofs.Kept.{stands_at, at_stage, own_low, own_free, not_outside, rest_silent, Searches, Interns, chain_of, label_of}
-use Rattle.term_core.proofs.Kept.{kids_of}
+use Rattle.term_core.proofs.Kept.{stands_at, at_stage, own_low, own_free, not_outside, rest_silent, Searches, Interns, chain_of, label_of, kids_of}
 use Rattle.term_core.proofs.Keys.{label_is, kids_is, matched, missing, over, tree_of, rest_linked}
 use Rattle.term_core.proofs.Turns.{calm, quiet, ended}
 use Rattle.term_core.proofs.Joining.{linked_step}

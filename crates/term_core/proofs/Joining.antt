@@ -18,8 +18,7 @@ use Rattle.term_labels.specs.WordTrees.{Tree}
 use Rattle.term_core.specs.Terms.{Pair, tree_at, tree_over, added_by, adds, pairs_of, Has, MayAnswer}
 use Rattle.term_core.specs.World.{Shape, IsShape, World, link_of, content_of, entry, ends}
 use Rattle.term_core.proofs.Replay.{IsThere, cond_has, eqb_has, one_of, maybe, added_row, tree_more, tree_new, trees_more, added_append}
-use Rattle.term_core.proofs.Chains.{Mem, mem_here, mem_cases, Linked, end_of, end_cases, at_other}
-use Rattle.term_core.proofs.Chains.{linked_other, linked_longer, linked_none}
+use Rattle.term_core.proofs.Chains.{Mem, mem_here, mem_cases, Linked, end_of, end_cases, at_other, linked_other, linked_longer, linked_none}
 use Rattle.term_core.proofs.Kept.{word, SameAs, home, Stored, Stands, Inv, Change, OnLink, Interns, chain_of, label_of, kids_of}
 use Rattle.term_core.proofs.Kept.{own_low, own_free, not_outside, there_stays, back_stays}
 use Rattle.term_core.proofs.Keys.{content_is, home_is, tree_of, over, rest_linked, missing}

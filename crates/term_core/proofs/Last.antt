@@ -1,14 +1,12 @@
 -- What the last entry of a legal history says.
-use Rattle.std.proofs.Common.{◌≡◌, ℕ, ◌+◌, ◌<◌, ◌≤◌, List, [], ◌∷◌, ◌++◌, Some, sym}
-use Rattle.std.proofs.Common.{◌∙◌, append-nil, inl, inr, arith}
+use Rattle.std.proofs.Common.{◌≡◌, ℕ, ◌+◌, ◌<◌, ◌≤◌, List, [], ◌∷◌, ◌++◌, Some, sym, ◌∙◌, append-nil, inl, inr, arith}
 use Rattle.term_core.specs.declared.Call.{Call}
 use Rattle.term_core.specs.declared.Call.TheVariants.{Intern}
 use Rattle.term_core.specs.declared.Answer.{Answer}
 use Rattle.term_core.specs.declared.Answer.TheVariants.{Ticket}
 use Rattle.term_core.specs.declared.Entry.{Entry}
 use Rattle.term_labels.specs.WordTrees.{Tree}
-use Rattle.term_core.specs.Terms.{Pair, tree_at, tree_over, added_by, adds, pairs_after, pairs_from, pairs_of}
-use Rattle.term_core.specs.Terms.{MayAnswer, legal_from, IsLegal}
+use Rattle.term_core.specs.Terms.{Pair, tree_at, tree_over, added_by, adds, pairs_after, pairs_from, pairs_of, MayAnswer, legal_from, IsLegal}
 use Rattle.term_core.proofs.Replay.{eqb_has, adds_cases, ticket_there, pairs_append, added_append}
 
 legal_back : (n : ℕ) (ps : List Pair) (h g : List Entry) → legal_from n ps (h ++ g) → legal_from n (pairs_from ps h) g

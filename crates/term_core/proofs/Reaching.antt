@@ -1,7 +1,6 @@
 -- What every list of items keeps.
 use Rattle.std.proofs.Common.{◌≡◌, ℕ, zero, suc, ◌+◌, ◌-◌, ◌*◌, ◌<◌, ◌≤◌, ◌&&◌, ◌⊎◌, Bool, true, false, cond, List, [], ◌∷◌}
-use Rattle.std.proofs.Common.{◌++◌, length, slice_index, replicate, Some, None, refl, sym, ap, subst, ◌∙◌}
-use Rattle.std.proofs.Common.{inl, inr, append-nil, arith}
+use Rattle.std.proofs.Common.{◌++◌, length, slice_index, replicate, Some, None, refl, sym, ap, subst, ◌∙◌, inl, inr, append-nil, arith}
 use Rattle.std.proofs.lemmas.List.{length-replicate}
 use mathlib.Core.Option.{some, none, some-injective, some-ne-none}
 use Rattle.std.proofs.lemmas.Bool.{and_parts}
@@ -13,19 +12,15 @@ use Rattle.term_core.specs.declared.Stage.{Stage}
 use Rattle.term_core.specs.declared.Stage.TheVariants.{Idle, Looking, AtLink, AtContent, Writing, Linking, Reading}
 use Rattle.term_core.specs.declared.Walker.{Walker}
 use Rattle.term_labels.specs.WordTrees.{Trees}
-use Rattle.term_core.specs.Terms.{Pair, tree_at, trees_at, added_by, pairs_of}
-use Rattle.term_core.specs.Terms.{IsLegal, calls_by, occurs}
+use Rattle.term_core.specs.Terms.{Pair, tree_at, trees_at, added_by, pairs_of, IsLegal, calls_by, occurs}
 use Rattle.term_core.specs.World.{Shape, IsShape, World, Item, Choice, begins, looks, world_of, world_after, start, step, does, acts}
-use Rattle.term_core.specs.World.{steps, step_start, step_start_at, may_begin, all_occur, at_most_three, first_stage, is_idle}
-use Rattle.term_core.specs.World.{place_at}
-use Rattle.term_core.specs.World.{fresh, fresh_from, link_of}
-use Rattle.term_core.specs.World.{word_count}
+use Rattle.term_core.specs.World.{steps, step_start, step_start_at, may_begin, all_occur, at_most_three, first_stage, is_idle, place_at}
+use Rattle.term_core.specs.World.{fresh, fresh_from, link_of, word_count}
 use Rattle.term_core.specs.Law.{Sees, Lawful}
 use Rattle.term_core.specs.Items.{IsReachedLink}
 use Rattle.term_core.proofs.Replay.{IsThere, there_from, tree_later, pairs_append, same_from, legal_front}
 use Rattle.term_core.proofs.Chains.{mem_left, mem_here, end_cases}
-use Rattle.term_core.proofs.Kept.{OnLink, Spot, Stands, at_stage, begun_has, Inv, own_low, rest_silent}
-use Rattle.term_core.proofs.Kept.{Searches, chain_of, label_of, kids_of, rooms}
+use Rattle.term_core.proofs.Kept.{OnLink, Spot, Stands, at_stage, begun_has, Inv, own_low, rest_silent, Searches, chain_of, label_of, kids_of, rooms}
 use Rattle.term_core.proofs.EachStep.{each}
 
 all_known : (rows : List Pair) (h : List Entry) → ((t : ℕ) → occurs h t ≡ true → IsThere rows t) → (ts : List ℕ) → all_occur h ts ≡ true

@@ -12,8 +12,7 @@ use Rattle.term_core.specs.declared.Stage.TheVariants.{Linking}
 use Rattle.term_core.specs.declared.Walker.{Walker}
 use Rattle.term_core.specs.declared.TheConstants.{CONTENT_WORDS}
 use Rattle.term_core.specs.Terms.{tree_at, pairs_of}
-use Rattle.term_core.specs.World.{Shape, IsShape, World, Item, link_of, step_start, is_idle, does, step, world_after, start}
-use Rattle.term_core.specs.World.{world_of}
+use Rattle.term_core.specs.World.{Shape, IsShape, World, Item, link_of, step_start, is_idle, does, step, world_after, start, world_of}
 use Rattle.term_core.specs.Items.{Links, Writes, IsLink, LinksStay, ContentStays}
 use Rattle.std.proofs.lemmas.Option.{none-some}
 use Rattle.term_core.proofs.Replay.{cond_has, pairs_append, tree_later}

@@ -10,8 +10,7 @@ use Rattle.term_core.specs.declared.Stage.TheVariants.{AtLink, AtContent, Writin
 use Rattle.term_core.specs.declared.Call.{Call}
 use Rattle.term_core.specs.declared.Call.TheVariants.{Intern}
 use Rattle.term_core.specs.declared.Walker.{Walker}
-use Rattle.term_core.specs.World.{begins, step_start, is_idle, place, becomes, turn, Turn, goes, ends, entry}
-use Rattle.term_core.specs.World.{follows, turn_without_node, first_stage}
+use Rattle.term_core.specs.World.{begins, step_start, is_idle, place, becomes, turn, Turn, goes, ends, entry, follows, turn_without_node, first_stage}
 use Rattle.term_core.specs.Terms.{StartsWith}
 use Rattle.term_core.specs.Law.{Sees}
 use Rattle.term_core.proofs.Replay.{cond_has}

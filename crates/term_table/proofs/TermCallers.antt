@@ -1,8 +1,7 @@
 -- What callers use of terms over labels of one type: tickets keep their terms, equal tickets are equal terms, and what each answer says of
 -- terms.
 use Rattle.std.specs.Prelude.{IfSome, IfNone, IfOk, IfErr}
-use Rattle.std.proofs.Common.{◌≡◌, ℕ, suc, ◌≤◌, ◌==◌, true, length, List, [], ◌∷◌, Option, Some, None, Result, Ok, Err}
-use Rattle.std.proofs.Common.{refl, sym, ap, ◌∙◌, eq-eqb}
+use Rattle.std.proofs.Common.{◌≡◌, ℕ, suc, ◌≤◌, ◌==◌, true, length, List, [], ◌∷◌, Option, Some, None, Result, Ok, Err, refl, sym, ap, ◌∙◌, eq-eqb}
 use mathlib.Core.Logic.{◌↔◌}
 use Rattle.std.proofs.lemmas.Bool.{and_parts, or_right}
 use Rattle.std.proofs.lemmas.Option.{same_Some, none-some}
@@ -24,8 +23,7 @@ use Rattle.term_table.specs.Terms.{HasTerm, HaveTerms, HasSeenTerm, HasSeenTerms
 use Rattle.term_table.specs.declared.table.Interned.{Interned}
 use Rattle.term_table.specs.declared.table.TableFull.{TableFull}
 use Rattle.term_table.proofs.Public.{has_one}
-use Rattle.term_table.proofs.Callers.{extends_self, extends_more, still_of}
-use Rattle.term_table.proofs.Callers.{kept_seen, kept_tree, h, ends_so, pairs_are, answer_seen}
+use Rattle.term_table.proofs.Callers.{extends_self, extends_more, still_of, kept_seen, kept_tree, h, ends_so, pairs_are, answer_seen}
 use Rattle.term_table.proofs.Callers.{trees_then, tree_then, tree_now, absent_then}
 
 -- so few children as the words of a node have room for

@@ -3,8 +3,7 @@ use Rattle.std.proofs.lemmas.Bool.{not-true, not-false}
 use Rattle.term_table.specs.declared.view.Walk.{Walk}
 use Rattle.term_table.proofs.Steps.{paired, begins_at, at_link, goes_on}
 use Rattle.term_table.proofs.nodes.Nodes.intern_as.Goals as goal
-use Rattle.term_table.proofs.nodes.Nodes.intern_as.Goals.{then-found-eq0+else-room-eq0+else-found-eq0-2, then-not-walk, else-not-walk}
-use Rattle.term_table.proofs.nodes.Nodes.intern_as.Goals.{else-found-eq0}
+use Rattle.term_table.proofs.nodes.Nodes.intern_as.Goals.{then-found-eq0+else-room-eq0+else-found-eq0-2, then-not-walk, else-not-walk, else-found-eq0}
 
 pub loop-walk-init : goal.loop-walk-init
 loop-walk-init g c = (
