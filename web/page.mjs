@@ -149,8 +149,8 @@ function showFault(told) {
 
 // What stands on the right isn't of the text on the left: it is dimmed, and says why. Who held the order before holds it after.
 function setStale(why) {
-  if (why !== null) keepLine();
   page.isHeld ||= $('order').contains(document.activeElement);
+  if (why !== null) keepLine();
   const below = page.chosen ? 'Below is what the last text without a fault gave.' : 'There is nothing below yet.';
   Object.assign($('stale'), { hidden: why === null, textContent: `${why} ${below}` });
   $('right').classList.toggle('stale', why !== null);
