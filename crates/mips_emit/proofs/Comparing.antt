@@ -28,7 +28,6 @@ use Rattle.mips_homes.specs.HomedRun.{cells, is_callee_saved, Run, Failed, with_
 use Rattle.mips_homes.specs.declared.homed.Home.{Home}
 use Rattle.mips_homes.specs.declared.homed.Home.TheVariants.{Reg}
 use Rattle.mips_emit.specs.declared.location.Source.{Source}
-use Rattle.mips_emit.specs.declared.operation.Operand.{Operand}
 use Rattle.mips_emit.specs.declared.comparison.Form.{Form}
 use Rattle.mips_emit.specs.declared.comparison.Form.TheVariants.{Known, OnPair, OnLeft, OnRight, ByResult, ByOpposite, InResult}
 use Rattle.mips_emit.specs.declared.comparison.Asked.{Asked}
@@ -37,9 +36,9 @@ use Rattle.mips_emit.specs.declared.comparison.Comparison.{Comparison}
 use Rattle.mips_emit.specs.Frames.{AreFrameHomes}
 use Rattle.mips_emit.specs.Locations.{Locations, Facts, known_in}
 use Rattle.mips_emit.specs.Code.{known_operand, operand_with, nop, fetch, operand_register}
-use Rattle.mips_emit.specs.Comparisons.{is_known_zero, is_immediate, opposite_if, form_of, truth_of, known_truth, form_with, opposite_op, code_by_form}
-use Rattle.mips_emit.specs.Comparisons.{comparison_code, is_asked, is_caller_saved, form_for, operator_comparison, comparison_of, last_with, is_result}
-use Rattle.mips_emit.specs.Comparisons.{returned}
+use Rattle.std.specs.Option.{option_map, option_map_or}
+use Rattle.mips_emit.specs.Comparisons.{is_known_zero, is_immediate, opposite_if, form_of, known_truth, opposite_op, code_by_form}
+use Rattle.mips_emit.specs.Comparisons.{comparison_code, is_asked, is_caller_saved, form_for, comparison_of, last_with, is_result, returned}
 use Rattle.mips_emit.proofs.Runs.{RunsTo, if_some, runs_then}
 use Rattle.mips_emit.proofs.View.{t2}
 use Rattle.mips_emit.proofs.Stands.{Stored, Stands}
@@ -73,10 +72,10 @@ abbrev comparison_at : Locations → Facts → Op → (d a b : ℕ) → Form →
 comparison_at at facts op d a b form = record { result = d; op = op; form = form; left = operand_with at facts a; right = operand_with at facts b }
 
 -- a comparison has the form that was found for it
-comparison_is : (d : ℕ) (op : Op) (l r : Operand) (o : Option Form) (m : Comparison) → operator_comparison d op l r o ≡ Some m
-    → (o ≡ Some m.form) × (operator_comparison d op l r (Some m.form) ≡ Some m)
-comparison_is d op l r None m e = absurd (none-some m e)
-comparison_is d op l r (Some form) m e = rw (same_Some m _ (sym e)) (refl, refl)
+comparison_is : (at : Locations) (facts : Facts) (op : Op) (d a b : ℕ) (o : Option Form) (m : Comparison)
+    → option_map (comparison_at at facts op d a b) o ≡ Some m → (o ≡ Some m.form) × (comparison_at at facts op d a b m.form ≡ m)
+comparison_is at facts op d a b None m e = absurd (none-some m e)
+comparison_is at facts op d a b (Some form) m e = rw (same_Some m _ (sym e)) (refl, refl)
 
 -- an operator that is one with an exit is what the exit asks for, in the form that it has there
 operator_asked : (at : Locations) (facts : Facts) (asked : Asked) (op : Op) (d a b : ℕ) (m : Comparison)
@@ -86,8 +85,8 @@ operator_asked : (at : Locations) (facts : Facts) (asked : Asked) (op : Op) (d a
 operator_asked at facts asked op d a b m e =
     let there = if_some (is_asked asked d && is_caller_saved (at d)) _ m e in
     let parts = and_parts (is_asked asked d) (is_caller_saved (at d)) there.0 in
-    let is = comparison_is d op (operand_with at facts a) (operand_with at facts b) (form_for asked op (known_in facts a) (known_in facts b)) m there.1 in
-    (parts.0, parts.1, is.0, same_Some _ m is.1)
+    let is = comparison_is at facts op d a b (form_for asked op (known_in facts a) (known_in facts b)) m there.1 in
+    (parts.0, parts.1, is.0, is.1)
 
 asked_for : (at : Locations) (facts : Facts) (asked : Asked) (i : RInst) (m : Comparison) → comparison_of at facts asked i ≡ Some m
     → (is_asked asked m.result ≡ true) × (form_for asked m.op m.left.known m.right.known ≡ Some m.form)
@@ -235,13 +234,13 @@ module _ {most total : ℕ} {gs : List RGlobal} {starts : ℕ → ℕ} where
 
       -- where both are known, so is the truth
       with_truth : (op : Op) (form : Form) → (a b : Option ℕ) → k ≡ a → l ≡ b → (o : Option Form) → form_of op k l ≡ o
-          → form_with (known_truth op a b) o ≡ Some form → op_result op v w ≡ Some u → Given op form
+          → option_map (option_map_or Known (known_truth op a b)) o ≡ Some form → op_result op v w ≡ Some u → Given op form
       with_truth op form a b ka lb None is e r = absurd (none-some form e)
       with_truth op form None b ka lb (Some made) is e r = decides op form (is ∙ e) r
       with_truth op form (Some a) None ka lb (Some made) is e r = decides op form (is ∙ e) r
       with_truth op form (Some a) (Some b) ka lb (Some made) is e r =
           let there : op_result op a b ≡ Some u = ap₂ (op_result op) (x_is.said a ka) (y_is.said b lb) ∙ r in
-          let is_known : Some (Known (not (nat_eq u 0))) ≡ Some form = sym (ap (λ o. form_with (truth_of o) (Some made)) there) ∙ e in
+          let is_known : Some (Known (not (nat_eq u 0))) ≡ Some form = sym (ap (λ o. option_map (option_map_or Known (option_map (λ u. not (nat_eq u 0)) o)) (Some made)) there) ∙ e in
           subst (Given op) (same_Some (Known (not (nat_eq u 0))) form is_known)
           (record { to = s; runs = runs_nop s; some = omega arith; stands = h; tells = refl; result = λ e. absurd (true≢false (sym e)) })
 

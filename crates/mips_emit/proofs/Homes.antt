@@ -17,9 +17,10 @@ use Rattle.mips_homes.specs.HomedRun.{cells, is_callee_saved, Run, Failed, with_
 use Rattle.mips_homes.specs.declared.homed.Home.{Home}
 use Rattle.mips_homes.specs.declared.homed.Home.TheVariants.{Reg, Slot, Copied}
 use Rattle.mips_emit.specs.declared.location.Source.{Source}
-use Rattle.mips_emit.specs.declared.location.Source.TheVariants.{Zero, Word, From}
+use Rattle.mips_emit.specs.declared.location.Source.TheVariants.{Zero, Word, InRegister, InSlot}
 use Rattle.mips_emit.specs.Frames.{IsHome, AreFrameHomes}
-use Rattle.mips_emit.specs.Locations.{in_slot, fresh_source, source, inner_of, deferred_const, deferred_none, deferred_at, deferred_source, word_source}
+use Rattle.std.specs.Option.{option_map_or}
+use Rattle.mips_emit.specs.Locations.{in_slot, fresh_source, source, inner_of, deferred_with, deferred_at, word_source}
 use Rattle.mips_emit.specs.Elements.{width_of, place_in, address_of_place}
 use Rattle.mips_emit.specs.Code.{nop, const_code, store_word_at, fetch, operand_register, bring, stays, carry, into, finish, put_at, arrive}
 use Rattle.mips_emit.proofs.Runs.{RunsTo, runs_none, runs_then}
@@ -111,14 +112,12 @@ module _ {most total : ℕ} {gs : List RGlobal} {starts : ℕ → ℕ} where
     pub brings : (t v : ℕ) (x : Source) → IsTarget t → Denotes top.count s x v → Sets (bring t x) s t v
     brings t v Zero ok d = set_sets ok (sym d) (moves s t 0 h.words)
     brings t v (Word w) ok d = rw (← d.0) (li_sets s t w ok d.1)
-    brings t v (From (Reg r)) ok d = set_sets ok d (moves s t r h.words)
-    brings t v (From (Copied r k)) ok d = set_sets ok d (moves s t r h.words)
-    brings t v (From (Slot k)) ok d = let at = slot_open k d.0 in set_sets ok d.1 (loads_word s t (4 * k) at.0 at.1)
+    brings t v (InRegister r) ok d = set_sets ok d (moves s t r h.words)
+    brings t v (InSlot k) ok d = let at = slot_open k d.0 in set_sets ok d.1 (loads_word s t (4 * k) at.0 at.1)
 
     -- the same, but for an operand that is there already
     stayed : (t v : ℕ) (x : Source) → IsTarget t → stays t x ≡ true → Denotes top.count s x v → s.regs t ≡ v
-    stayed t v (From (Reg r)) ok e d = sym (read_register s.regs t ok.low) ∙ (rw (eqb-true r t e) at d)
-    stayed t v (From (Copied r k)) ok e d = sym (read_register s.regs t ok.low) ∙ (rw (eqb-true r t e) at d)
+    stayed t v (InRegister r) ok e d = sym (read_register s.regs t ok.low) ∙ (rw (eqb-true r t e) at d)
     stayed t v _ ok e d = absurd (true≢false (sym e))
 
     pub carries : (t v : ℕ) (x : Source) → IsTarget t → Denotes top.count s x v → Sets (carry t x) s t v
@@ -138,8 +137,7 @@ module _ {most total : ℕ} {gs : List RGlobal} {starts : ℕ → ℕ} where
 
     pub fetches : (t v : ℕ) (x : Source) → 0 < t → t < 4 → Denotes top.count s x v → Fetched (fetch t x) t (operand_register t x) v
     fetches t v Zero low high d = shown t 0 v (sym d)
-    fetches t v (From (Reg r)) low high d = shown t r v d
-    fetches t v (From (Copied r k)) low high d = shown t r v d
+    fetches t v (InRegister r) low high d = shown t r v d
     fetches t v x low high d =
         let c = brings t v x (omega arith) d in
         record { regs = c.regs; runs = c.runs; here = read_register c.regs t low ∙ c.here; others = c.others; stands = sets_kept h high c }
@@ -255,27 +253,27 @@ module _ {most total : ℕ} {gs : List RGlobal} {starts : ℕ → ℕ} where
     -- an operand is what the pseudo-register holds
     pub operand_means : {known : Places} (x v : ℕ) → AreFrameHomes top.homes top.count → IsKnown known top.homes registers top.slots
         → read_home top.homes registers top.slots x ≡ Some v
-        → Denotes top.count s (deferred_source (deferred_at deferred (slice_get top.homes x)) (source (known x) (slice_get top.homes x))) v
-        × IsAway (deferred_source (deferred_at deferred (slice_get top.homes x)) (source (known x) (slice_get top.homes x)))
+        → Denotes top.count s (option_map_or word_source (deferred_at deferred (slice_get top.homes x)) (source (known x) (slice_get top.homes x))) v
+        × IsAway (option_map_or word_source (deferred_at deferred (slice_get top.homes x)) (source (known x) (slice_get top.homes x)))
     operand_means {known} x v ok k e =
         go (slice_get top.homes x) (deferred_at deferred (slice_get top.homes x)) (known x) refl refl refl e
       where
         said : (w : ℕ) → known x ≡ Some w → w ≡ v
         said w is = same_Some w v (sym (k.by x w is) ∙ e)
 
-        held : (r : ℕ) → IsHome top.count (Reg r) → deferred r ≡ None → registers r ≡ Some v → Means (From (Reg r)) v
+        held : (r : ℕ) → IsHome top.count (Reg r) → deferred r ≡ None → registers r ≡ Some v → Means (InRegister r) v
         held r ok none is = (read_register s.regs r (omega (arith, ok.0)) ∙ h.held r v ok.0 ok.1 (rw none is), ok)
 
-        copied : (r q : ℕ) → slice_get top.homes x ≡ Some (Copied r q) → top.slots q ≡ Some v → Means (From (Reg r)) v
+        copied : (r q : ℕ) → slice_get top.homes x ≡ Some (Copied r q) → top.slots q ≡ Some v → Means (InRegister r) v
         copied r q copy e =
             let range = (ok.copied).range x r q copy in
             (read_register s.regs r (omega (arith, range.0)) ∙ (copy_holds h x r q copy).copied x r q v copy e, (omega (arith, range.0), range.1))
 
-        either : (r w : ℕ) → known x ≡ Some w → Means (From (Reg r)) v → Means (if nat_eq w 0 then Zero else From (Reg r)) v
-        either r w is m = cond_both (nat_eq w 0) Zero (From (Reg r)) (λ x. Means x v) (λ t. (sym (said w is) ∙ eqb-true w 0 t, tt)) (λ _. m)
+        either : (r w : ℕ) → known x ≡ Some w → Means (InRegister r) v → Means (if nat_eq w 0 then Zero else InRegister r) v
+        either r w is m = cond_both (nat_eq w 0) Zero (InRegister r) (λ x. Means x v) (λ t. (sym (said w is) ∙ eqb-true w 0 t, tt)) (λ _. m)
 
         go : (o : Option Home) (z p : Option ℕ) → slice_get top.homes x ≡ o → deferred_at deferred o ≡ z → known x ≡ p
-            → chain o (in_home registers top.slots) ≡ Some v → Means (deferred_source z (source p o)) v
+            → chain o (in_home registers top.slots) ≡ Some v → Means (option_map_or word_source z (source p o)) v
         go None z p is lz kp e = absurd (none-some v e)
         go (Some (Reg r)) (Some w) p is lz kp e = word_means w v (same_Some w v (sym (are_deferred.holds r w lz) ∙ e)) (are_deferred.below r w lz)
         go (Some (Reg r)) None None is lz kp e = held r (ok.by x (Reg r) is) lz e
@@ -290,13 +288,13 @@ module _ {most total : ℕ} {gs : List RGlobal} {starts : ℕ → ℕ} where
     pub last_means : {known : Places} {fresh : Option ℕ} (x v : ℕ) → AreFrameHomes top.homes top.count → IsKnown known top.homes registers top.slots
         → IsFresh fresh top.homes registers top.slots s → read_home top.homes registers top.slots x ≡ Some v
         → Denotes top.count s (fresh_source fresh x (inner_of (slice_get top.homes x))
-        (deferred_source (deferred_at deferred (slice_get top.homes x)) (source (known x) (slice_get top.homes x)))) v
+        (option_map_or word_source (deferred_at deferred (slice_get top.homes x)) (source (known x) (slice_get top.homes x)))) v
     last_means {known} {fresh} x v ok k f e = go fresh refl
       where
         go : (o : Option ℕ) → fresh ≡ o → Denotes top.count s (fresh_source o x (inner_of (slice_get top.homes x))
-            (deferred_source (deferred_at deferred (slice_get top.homes x)) (source (known x) (slice_get top.homes x)))) v
+            (option_map_or word_source (deferred_at deferred (slice_get top.homes x)) (source (known x) (slice_get top.homes x)))) v
         go None is = (operand_means x v ok k e).0
-        go (Some y) is = cond_both (nat_eq y x) (From (Reg _)) _ (λ z. Denotes top.count s z v)
+        go (Some y) is = cond_both (nat_eq y x) (InRegister _) _ (λ z. Denotes top.count s z v)
             (λ same. read_register s.regs _ (inner_is (slice_get top.homes x)).low ∙ f.by x v (is ∙ ap Some (eqb-true y x same)) e)
             (λ _. (operand_means x v ok k e).0)
 
@@ -369,7 +367,7 @@ module _ {most total : ℕ} {gs : List RGlobal} {starts : ℕ → ℕ} where
       module _ (P : Run → Type 0) (go : Places → Places → Run) (y : Source) (d : Denotes top.count s y v) where
         abbrev Go : Option Home → Type 0
         Go l = (registers' slots' : Places) (to : State) → 1 ≤ length (put_at l y)
-            → Written (put_at l y) s (places_with known x o) l (deferred_none l deferred) registers' slots' to → P (go registers' slots')
+            → Written (put_at l y) s (places_with known x o) l (deferred_with l None deferred) registers' slots' to → P (go registers' slots')
 
         puts_at : (l : Home) → slice_get top.homes x ≡ Some l → Go (Some l) → P (write_at l registers top.slots v go)
         puts_at (Reg r) at f =
@@ -391,7 +389,7 @@ module _ {most total : ℕ} {gs : List RGlobal} {starts : ℕ → ℕ} where
       module _ (P : Run → Type 0) (go : Places → Places → Run) (is : List Plain) (s0 : State) (some : 1 ≤ length is) where
         abbrev Finished : Option Home → Type 0
         Finished l = (registers' slots' : Places) (to : State) → 1 ≤ length (is ++ finish l)
-            → Written (is ++ finish l) s0 (places_with known x o) l (deferred_none l deferred) registers' slots' to
+            → Written (is ++ finish l) s0 (places_with known x o) l (deferred_with l None deferred) registers' slots' to
             → Holds l to.regs v → IsFresh (in_slot l x) top.homes registers' slots' to → P (go registers' slots')
 
         finishes_at : (l : Home) → slice_get top.homes x ≡ Some l → Ends is s0 s (into (Some l)) v × Finished (Some l)
@@ -427,7 +425,7 @@ module _ {most total : ℕ} {gs : List RGlobal} {starts : ℕ → ℕ} where
           → P (go registers' slots')
 
       -- at once
-      puts_now : (l : Home) → slice_get top.homes x ≡ Some l → Told (put_at (Some l) (word_source v)) (Some l) (deferred_none (Some l) deferred)
+      puts_now : (l : Home) → slice_get top.homes x ≡ Some l → Told (put_at (Some l) (word_source v)) (Some l) (deferred_with (Some l) None deferred)
           → P (write_at l registers top.slots v go)
       puts_now l at f = puts_at x v below (λ w e. sym (same_Some v w e)) ok k P go (word_source v) (word_means v v refl below).0 l at f
 
@@ -443,15 +441,15 @@ module _ {most total : ℕ} {gs : List RGlobal} {starts : ℕ → ℕ} where
         keeps = record { base = refl; others = λ q low ne. refl };
       })
 
-      tells_at : (l : Home) → slice_get top.homes x ≡ Some l → Told (const_code (Some l) v) (Some l) (deferred_const (Some l) v deferred)
+      tells_at : (l : Home) → slice_get top.homes x ≡ Some l → Told (const_code (Some l) v) (Some l) (deferred_with (Some l) (Some v) deferred)
           → P (write_at l registers top.slots v go)
       tells_at (Reg r) at f = in_turn r at (is_callee_saved r) refl f
       tells_at (Slot j) at f = puts_now (Slot j) at f
       tells_at (Copied r j) at f = puts_now (Copied r j) at f
 
-      pub tells : (out : List ℕ) → P (Failed out) → Told (const_code (slice_get top.homes x) v) (slice_get top.homes x) (deferred_const (slice_get top.homes x) v deferred)
+      pub tells : (out : List ℕ) → P (Failed out) → Told (const_code (slice_get top.homes x) v) (slice_get top.homes x) (deferred_with (slice_get top.homes x) (Some v) deferred)
           → P (write_home (cells top.homes registers top.slots) x v out go)
-      tells out failed f = at_home P (λ l. Told (const_code l v) l (deferred_const l v deferred)) (slice_get top.homes x) out
+      tells out failed f = at_home P (λ l. Told (const_code l v) l (deferred_with l (Some v) deferred)) (slice_get top.homes x) out
           (λ h. write_at h registers top.slots v go) failed tells_at f
 
   -- a register into a home, where no word is to come
@@ -479,11 +477,11 @@ module _ {most total : ℕ} {gs : List RGlobal} {starts : ℕ → ℕ} where
 
       by : (l : Home) → slice_get top.homes x ≡ Some l → Arrived (Some l) → P (write_at l registers top.slots v go)
       by (Reg r) at f =
-          let c = carries h r v (From (Reg t)) (omega (arith, ok.by x (Reg r) at)) shows in
+          let c = carries h r v (InRegister t) (omega (arith, ok.by x (Reg r) at)) shows in
           let w = in_register h (none_deferred registers) x v below none ok k at c.runs c.here c.others in
           f (places_with registers r (Some v)) top.slots (record s { regs = c.regs }) w.runs (fewer_stand w.stands (λ q u e. grind (arith, nat_tests))) w.keeps
       by (Copied r j) at f =
-          let c = carries h r v (From (Reg t)) (omega (arith, (ok.copied).range x r j at)) shows in
+          let c = carries h r v (InRegister t) (omega (arith, (ok.copied).range x r j at)) shows in
           let w = in_copy h (none_deferred registers) x v below none ok k at c.runs c.here c.others in
           f registers (places_with top.slots j (Some v)) _ w.runs w.stands w.keeps
       by (Slot j) at f =

@@ -1,7 +1,8 @@
 -- Each instruction's code does what the instruction does.
-use Rattle.std.proofs.Common.{◌≡◌, ◌≢◌, ℕ, zero, suc, ◌+◌, ◌^◌, ◌*◌, ◌<◌, ◌≤◌, true, true≢false, List, [], ◌∷◌, ◌++◌, take, map, length, Option, Some, None}
+use Rattle.std.proofs.Common.{◌≡◌, ◌≢◌, ℕ, zero, suc, ◌+◌, ◌^◌, ◌*◌, ◌%◌, ◌<◌, ◌≤◌, true, true≢false, List, [], ◌∷◌, ◌++◌, take, map, length, Option, Some, None}
 use Rattle.std.proofs.Common.{refl, sym, ap, ◌∙◌, subst, arith, nat_eq, ltb-true}
 use Rattle.std.specs.Prelude.{◌-◌, slice_get, nat_lt}
+use Rattle.std.specs.Option.{option_or}
 use Rattle.std.proofs.lemmas.Option.{same_Some, none-some, cond_some}
 use Rattle.words.specs.declared.operator.Operator.TheVariants as operators
 use Rattle.words.specs.Words.{wrap}
@@ -25,10 +26,10 @@ use Rattle.rtl.proofs.Results.{result-word}
 use Rattle.mips_homes.specs.HomedRun.{cells, Run, Failed, with_value, read_home, with_inst}
 use Rattle.mips_homes.specs.declared.homed.Home.{Home}
 use Rattle.mips_emit.specs.declared.limits.TheConstants.{KEPT_FACTS}
-use Rattle.mips_homes.specs.declared.homed.Home.TheVariants.{Reg, Slot, Copied}
+use Rattle.mips_homes.specs.declared.homed.Home.TheVariants.{Reg, Copied}
 use Rattle.mips_emit.specs.declared.location.Source.{Source}
 use Rattle.mips_emit.specs.declared.product.ShiftedSum.{ShiftedSum}
-use Rattle.mips_emit.specs.declared.location.Source.TheVariants.{From}
+use Rattle.mips_emit.specs.declared.location.Source.TheVariants.{InRegister}
 use Rattle.mips_emit.specs.declared.facts.Fact.{Fact}
 use Rattle.mips_emit.specs.Frames.{AreFrameHomes}
 use Rattle.mips_emit.specs.Locations.{Facts, known_of, known_in, with_fact, learned, last_of, inner_of, operand, index_register, kept_with}
@@ -36,7 +37,7 @@ use Rattle.mips_emit.specs.declared.facts.Kept.{Kept}
 use Rattle.mips_emit.specs.declared.element.Reach.{Reach}
 use Rattle.mips_emit.specs.declared.element.Reach.TheVariants.{ByPointer, ByScratch, ByKept, ByNew}
 use Rattle.mips_emit.specs.declared.offset.Offset.{Offset}
-use Rattle.mips_emit.specs.Offsets.{addend, offset_from, sum_offset, or_offset, offset_past, offset_in, index_with}
+use Rattle.mips_emit.specs.Offsets.{addend, offset_from, sum_offset, offset_past, offset_in, index_with}
 use Rattle.rtl.specs.declared.operator.Op.TheVariants.{Add, Sub}
 use Rattle.std.proofs.lemmas.Bool.{eqb-false, cond_both}
 use Rattle.std.proofs.lemmas.Bool.Decides.{nat_tests}
@@ -87,8 +88,7 @@ into_target hs count x ok = go (slice_get hs x) refl
 
 -- an operand away from the lower registers isn't shown by register 2
 operand_register_apart : (x : Source) → IsAway x → operand_register 1 x ≢ 2
-operand_register_apart (From (Slot k)) away = omega arith
-operand_register_apart (From _) away = omega arith
+operand_register_apart (InRegister r) away = omega arith
 operand_register_apart _ away = omega arith
 
 -- what an operator with a known word adds
@@ -101,15 +101,15 @@ sums_to _ v w u c e is = absurd (none-some c is)
 module _ (op : Op) (v w u count : ℕ) (s : State) (f f' : ℕ → ℕ) (old : Option Offset) (e : op_result op v w ≡ Some u) (before : IsOffset old f)
     (same : (q : ℕ) → 4 ≤ q → f q ≡ s.regs q) where
   sum_known : (l : Option Home) (right : Option ℕ) (x : Source) → ((t : ℕ) → l ≡ Some (Reg t) → (4 ≤ t) × (t < 28)) → IsAway x → Denotes count s x v
-      → ((c : ℕ) → right ≡ Some c → c ≡ w) → Keeps l f f' → Holds l f' u → IsOffset (or_offset (sum_offset l op right x) (offset_past l old)) f'
-  sum_known (Some (Reg t)) (Some c) (From (Reg r)) ok away means said keeps is = by (addend op c) refl
+      → ((c : ℕ) → right ≡ Some c → c ≡ w) → Keeps l f f' → Holds l f' u → IsOffset (option_or (sum_offset l op right x) (offset_past l old)) f'
+  sum_known (Some (Reg t)) (Some c) (InRegister r) ok away means said keeps is = by (addend op c) refl
     where
       others : IsOffset (offset_past (Some (Reg t)) old) f'
       others = offset_written keeps before
 
-      by : (o : Option ℕ) → addend op c ≡ o → IsOffset (or_offset (offset_from t r o) (offset_past (Some (Reg t)) old)) f'
+      by : (o : Option ℕ) → addend op c ≡ o → IsOffset (option_or (offset_from t r o) (offset_past (Some (Reg t)) old)) f'
       by None added = others
-      by (Some d) added = cond_both (nat_eq r t) None (Some (record { register = t; base = r; word = d })) (λ o. IsOffset (or_offset o (offset_past (Some (Reg t)) old)) f')
+      by (Some d) added = cond_both (nat_eq r t) None (Some (record { register = t; base = r; word = d })) (λ o. IsOffset (option_or o (offset_past (Some (Reg t)) old)) f')
           (λ _. others) (λ n.
           let sum = sums_to op v w u d e (ap (addend op) (sym (said c refl)) ∙ added) in
           let kept = keeps.others r away.0 (eqb-false r t n) ∙ same r away.0 ∙ sym (read_register s.regs r (omega (arith, away.0))) ∙ means in
@@ -174,8 +174,8 @@ module _ {most total : ℕ} {gs : List RGlobal} {starts : ℕ → ℕ} where
         let a = fetches h t v x is_inner.low is_inner.high (x_is.means s h) in
         let s1 : State = record s { regs = a.regs } in
         let q = operand_register t x in
-        let c : Sets (Shift Sll 2 q m.amount ∷ []) s1 2 is.shown =
-        set_sets {v = op_value operators.Sll (read 0 a.regs q) (wrap m.amount)} t2 (rw a.here is.shifts) (record { ends = refl }) in
+        let c : Sets (Shift Sll 2 q (m.amount % 32) ∷ []) s1 2 is.shown =
+        set_sets {v = op_value operators.Sll (read 0 a.regs q) (wrap (m.amount % 32))} t2 (rw a.here is.shifts) (record { ends = refl }) in
         computed (sets_kept a.stands (omega arith) c) (λ q up. c.others q (omega (arith, up)) ∙ a.others q (omega (arith, is_inner.high, up)))
         (λ m e. runs_then a.runs (runs_then c.runs e)) (λ some. longer_behind (fetch t x) _ (omega arith)) lt
         (alu_gives (record s1 { regs = c.regs }) d 2 q is.shown v u ok (read_register c.regs 2 (omega arith) ∙ c.here)
@@ -269,7 +269,7 @@ module _ {most total : ℕ} {gs : List RGlobal} {starts : ℕ → ℕ} where
           }
 
       -- from a base in register 30
-      module _ (t : ℕ) (away : IsAway (From (Reg t))) (is : read 0 s.regs t ≡ i) where
+      module _ (t : ℕ) (away : IsAway (InRegister t)) (is : read 0 s.regs t ≡ i) where
         abbrev at : Offset
         at = offset_in offset t
 
@@ -279,10 +279,10 @@ module _ {most total : ℕ} {gs : List RGlobal} {starts : ℕ → ℕ} where
         index : IsIndex at t s.regs
         index = index_is offset t s.regs away.0 away.1 ((h.words).regs t) offsets
 
-        at_kept : (by : Reach) (m : State) → RunsTo (element_code (width_of gs a) (starts a) by (From (Reg t))) s m → element_base by ≡ 30
+        at_kept : (by : Reach) (m : State) → RunsTo (element_code (width_of gs a) (starts a) by (InRegister t)) s m → element_base by ≡ 30
             → element_offset (width_of gs a) (starts a) by ≡ shifted_offset (width_of gs a) (starts a) (at.word)
             → m.regs 30 ≡ wrap (width_bytes (width_of gs a) * m.regs from + base_word (starts a))
-            → ((q : ℕ) → 4 ≤ q → q ≢ 30 → m.regs q ≡ s.regs q) → Stands most total gs starts registers g (top ∷ fs) m → Reached by (From (Reg t)) (this t)
+            → ((q : ℕ) → 4 ≤ q → q ≢ 30 → m.regs q ≡ s.regs q) → Stands most total gs starts registers g (top ∷ fs) m → Reached by (InRegister t) (this t)
         at_kept by m run base_is offset_is base others st =
             let sum = sum_same at others index.1 in
             let shown : m.regs at.register ≡ i = others at.register index.1.0 (omega (arith, index.1.1)) ∙ ap s.regs index.0 ∙ sym (read_register s.regs t (omega (arith, away.0))) ∙ is in
@@ -297,7 +297,7 @@ module _ {most total : ℕ} {gs : List RGlobal} {starts : ℕ → ℕ} where
             }
 
         -- which is made, and kept
-        anew : Reached (ByNew from at.word) (From (Reg t)) (this t)
+        anew : Reached (ByNew from at.word) (InRegister t) (this t)
         anew =
             let low : 4 ≤ from = of_index (λ q. 4 ≤ q) (width_of gs a) (starts a) at index.1.0 index.1.2 in
             let high : from < 28 = of_index (λ q. q < 28) (width_of gs a) (starts a) at index.1.1 index.1.3 in
@@ -307,7 +307,7 @@ module _ {most total : ℕ} {gs : List RGlobal} {starts : ℕ → ℕ} where
             (rw (others from low (omega (arith, high)), ← read_register s.regs from (omega (arith, low))) b.here) others (run_kept h b.runs others)
 
         -- or was kept
-        again : (p : Option Kept) → kept ≡ p → holds_base gs starts p a (Some at) ≡ true → Reached (ByKept at.word) (From (Reg t)) (this t)
+        again : (p : Option Kept) → kept ≡ p → holds_base gs starts p a (Some at) ≡ true → Reached (ByKept at.word) (InRegister t) (this t)
         again None same e = absurd (true≢false (sym e))
         again (Some j) same e = at_kept (ByKept at.word) s (runs_none s) refl refl (grind (arith, nat_tests, (k.by j same).base)) (λ q _ _. refl) h
 
@@ -339,9 +339,9 @@ module _ {most total : ℕ} {gs : List RGlobal} {starts : ℕ → ℕ} where
 
           by : (known : Option ℕ) (x : Source) → IsOperand known x i
               → Reached (reach_with gs starts kept a known (index_with offset (index_register known x))) x (kept_with a (index_with offset (index_register known x)) kept)
-          by None (From (Reg t)) x_is =
+          by None (InRegister t) x_is =
               let is = x_is.means s h in
-              cond_both (holds_base gs starts kept a (Some (offset_in offset t))) _ _ (λ r. Reached r (From (Reg t)) (this t))
+              cond_both (holds_base gs starts kept a (Some (offset_in offset t))) _ _ (λ r. Reached r (InRegister t) (this t))
               (again t x_is.away is kept refl) (λ _. anew t x_is.away is)
           by None x x_is = far x_is
           by (Some w) x x_is = near_or_far x_is (direct (width_of gs a) (starts a) (Some w)) refl

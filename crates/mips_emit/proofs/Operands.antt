@@ -19,7 +19,7 @@ use Rattle.mips_homes.specs.declared.homed.Home.{Home}
 use Rattle.mips_homes.specs.declared.homed.Frame.{Frame}
 use Rattle.mips_homes.specs.declared.homed.Home.TheVariants.{Reg, Slot, Copied}
 use Rattle.mips_emit.specs.declared.location.Source.{Source}
-use Rattle.mips_emit.specs.declared.location.Source.TheVariants.{Zero, Word, From}
+use Rattle.mips_emit.specs.declared.location.Source.TheVariants.{Zero, Word, InRegister, InSlot}
 use Rattle.mips_emit.specs.declared.comparison.Form.{Form}
 use Rattle.mips_emit.specs.declared.comparison.Form.TheVariants.{Known, OnPair, OnLeft, OnRight, ByResult, ByOpposite, InResult}
 use Rattle.mips_emit.specs.declared.comparison.Comparison.{Comparison}
@@ -33,7 +33,7 @@ use Rattle.mips_emit.specs.Locations.{Facts, known_in, no_facts, kept_past, Fits
 use Rattle.words.specs.Words.{wrap}
 use Rattle.mips_emit.specs.Elements.{width_bytes, width_of, base_word, fits_offset, base_index, address_of_place}
 use Rattle.mips_emit.specs.declared.offset.Offset.{Offset}
-use Rattle.mips_emit.specs.Offsets.{no_offset, without, past, offset_past, offset_in}
+use Rattle.mips_emit.specs.Offsets.{no_offset, past, offset_past, offset_in}
 use Rattle.mips_emit.specs.Code.{nop, operand_register, bring}
 use Rattle.mips_emit.proofs.Runs.{RunsTo}
 use Rattle.mips_emit.proofs.View.{word_at, read_other}
@@ -125,20 +125,17 @@ stack_apart widths.Byte a p total low high inside few = omega arith
 abbrev pub Denotes : ℕ → State → Source → ℕ → Type 0
 Denotes count s Zero v = v ≡ 0
 Denotes count s (Word w) v = (w ≡ v) × (w < 2 ^ 32)
-Denotes count s (From (Reg r)) v = read 0 s.regs r ≡ v
-Denotes count s (From (Copied r k)) v = read 0 s.regs r ≡ v
-Denotes count s (From (Slot k)) v = (k < count) × (word_at s (s.regs 29 + 4 * k) ≡ v)
+Denotes count s (InRegister r) v = read 0 s.regs r ≡ v
+Denotes count s (InSlot k) v = (k < count) × (word_at s (s.regs 29 + 4 * k) ≡ v)
 
 -- an operand that is in no register but one of homes and copies
 abbrev pub IsAway : Source → Type 0
-IsAway (From (Reg r)) = (4 ≤ r) × (r < 28)
-IsAway (From (Copied r k)) = (4 ≤ r) × (r < 28)
+IsAway (InRegister r) = (4 ≤ r) × (r < 28)
 IsAway _ = Unit {0}
 
 pub operand_register_kept : (x : Source) (t u : ℕ) (f f' : ℕ → ℕ) → IsAway x → t ≢ u → u < 4 → ((r : ℕ) → r ≢ u → f' r ≡ f r) → read 0 f' (operand_register t x) ≡ read 0 f (operand_register t x)
 operand_register_kept Zero t u f f' away ne low same = refl
-operand_register_kept (From (Reg r)) t u f f' away ne low same = read_other f f' r (λ _. same r (omega (arith, away.0, low)))
-operand_register_kept (From (Copied r k)) t u f f' away ne low same = read_other f f' r (λ _. same r (omega (arith, away.0, low)))
+operand_register_kept (InRegister r) t u f f' away ne low same = read_other f f' r (λ _. same r (omega (arith, away.0, low)))
 operand_register_kept _ t u f f' away ne low same = read_other f f' t (λ _. same t ne)
 
 pub longer : (a b : List Plain) → 1 ≤ length a → 1 ≤ length (a ++ b)
@@ -149,20 +146,18 @@ longer_behind a b h = omega (arith, length-append a b)
 
 pub bring_some : (t : ℕ) (x : Source) → 1 ≤ length (bring t x)
 bring_some t (Word w) = grind arith
-bring_some t (From (Reg r)) = omega arith
+bring_some t (InRegister r) = omega arith
 bring_some t _ = omega arith
 
 -- an operand that isn't in register t, and what it means after a write of that
 abbrev pub IsApart : ℕ → Source → Type 0
-IsApart t (From (Reg r)) = r ≢ t
-IsApart t (From (Copied r k)) = r ≢ t
+IsApart t (InRegister r) = r ≢ t
 IsApart t _ = Unit {0}
 
 pub denotes_kept : (count t v : ℕ) (x : Source) (s : State) (f : ℕ → ℕ) → t ≢ 29 → IsApart t x → ((q : ℕ) → q ≢ t → f q ≡ s.regs q)
     → Denotes count s x v → Denotes count (record s { regs = f }) x v
-denotes_kept count t v (From (Reg r)) s f ne apart same d = read_other s.regs f r (λ _. same r apart) ∙ d
-denotes_kept count t v (From (Copied r k)) s f ne apart same d = read_other s.regs f r (λ _. same r apart) ∙ d
-denotes_kept count t v (From (Slot k)) s f ne apart same d = (d.0, ap (λ p. word_at s (p + 4 * k)) (same 29 (λ e. ne (sym e))) ∙ d.1)
+denotes_kept count t v (InRegister r) s f ne apart same d = read_other s.regs f r (λ _. same r apart) ∙ d
+denotes_kept count t v (InSlot k) s f ne apart same d = (d.0, ap (λ p. word_at s (p + 4 * k)) (same 29 (λ e. ne (sym e))) ∙ d.1)
 denotes_kept count t v _ s f ne apart same d = d
 
 -- a register that isn't the home itself
@@ -230,16 +225,12 @@ pub offset_same : {offset : Option Offset} {f f' : ℕ → ℕ} → ((q : ℕ) �
 offset_same same h = record { by = λ o e. sum_same o same (h.by o e) }
 
 -- what is known by an offset past a write was known, and the write is elsewhere
-without_some : {A : Type 0} (offset : A → Offset) (r : ℕ) (o : Option A) (a : A) → without offset r o ≡ Some a
-    → (o ≡ Some a) × ((offset a).register ≢ r) × ((offset a).base ≢ r)
-without_some offset r None a e = absurd (none-some a e)
-without_some offset r (Some b) a e = grind (arith, nat_tests)
-
 past_some : {A : Type 0} (offset : A → Offset) (l : Option Home) (o : Option A) (a : A) → past offset l o ≡ Some a
     → (o ≡ Some a) × IsElsewhere l (offset a).register × IsElsewhere l (offset a).base
-past_some offset (Some (Reg r)) o a e = without_some offset r o a e
-past_some offset (Some (Copied r j)) o a e = without_some offset r o a e
-past_some offset _ o a e = (e, tt, tt)
+past_some offset l None a e = absurd (none-some a e)
+past_some offset (Some (Reg r)) (Some b) a e = grind (arith, nat_tests)
+past_some offset (Some (Copied r j)) (Some b) a e = grind (arith, nat_tests)
+past_some offset _ (Some b) a e = (e, tt, tt)
 
 module _ {l : Option Home} {f f' : ℕ → ℕ} (same : Keeps l f f') where
   pub offset_written : {offset : Option Offset} → IsOffset offset f → IsOffset (offset_past l offset) f'

@@ -33,7 +33,8 @@ use Rattle.rtl.specs.declared.operator.Op.TheVariants.{Add, Sub, Mul, DivS, DivU
 use Rattle.rtl.specs.Operators.{truth_word, op_result}
 use Rattle.rtl.proofs.Computing.{complement-is}
 use Rattle.std.proofs.lemmas.List.{take-append-drop}
-use Rattle.mips_emit.specs.Code.{one_or_two, as_list, is_small, half, operation, opposite, next_word, exponent, is_power, immediate, is_symmetric}
+use Rattle.std.specs.Option.{option_to_list}
+use Rattle.mips_emit.specs.Code.{one_or_two, is_small, half, operation, opposite, next_word, exponent, is_power, immediate, is_symmetric}
 use Rattle.mips_emit.specs.Code.{turned_less_of}
 use Rattle.mips_emit.proofs.Runs.{RunsTo, if_some, runs_then}
 use Rattle.mips_emit.proofs.View.{set, IsTarget, put_here, put_other, read_register, alu_runs, imm_runs}
@@ -299,6 +300,5 @@ less_gives LeU s d q v w u i (Some c) ok left lv lw said is e =
 less_gives _ s d q v w u i _ ok left lv lw said is e = absurd (none-some i is)
 
 -- an instruction and a second one, as the first and the rest of what they are
-pub one_or_two_are : (i : Plain) (s : Option Plain) (l : List Plain) → take 1 l ≡ i ∷ [] → drop 1 l ≡ as_list s → one_or_two i s ≡ l
-one_or_two_are i None l first rest = ap₂ (λ a b. a ++ b) (sym first) (sym rest) ∙ take-append-drop 1 l
-one_or_two_are i (Some j) l first rest = ap₂ (λ a b. a ++ b) (sym first) (sym rest) ∙ take-append-drop 1 l
+pub one_or_two_are : (i : Plain) (s : Option Plain) (l : List Plain) → take 1 l ≡ i ∷ [] → drop 1 l ≡ option_to_list s → one_or_two i s ≡ l
+one_or_two_are i s l first rest = ap₂ (λ a b. a ++ b) (sym first) (sym rest) ∙ take-append-drop 1 l

@@ -21,12 +21,12 @@ use Rattle.mips_emit.proofs.Operations.{shifted, symmetric}
 -- a word shifted, and then its sum with the word or the difference
 pub record IsMultiple (m : ShiftedSum) (v u : ℕ) : Type 0 where
   pub shown : ℕ
-  pub shifts : op_value operators.Sll v (wrap m.amount) ≡ shown
+  pub shifts : op_value operators.Sll v (wrap (m.amount % 32)) ≡ shown
   pub sums : value_of (alu_operator m.op) shown v ≡ Some u
 
 -- a word shifted, and then an operator on that and the word
 made : (op : AluOp) (d v u : ℕ) → is_power d ≡ true → (0 < d → value_of (alu_operator op) (wrap (v * d)) v ≡ Some u)
-    → IsMultiple (record { op = op; amount = exponent d % 32 }) v u
+    → IsMultiple (record { op = op; amount = exponent d }) v u
 unfolding op_value
 made op d v u b sums =
     let power : 2 ^ (exponent d % 32) ≡ d = eqb-true (2 ^ (exponent d % 32)) d b in
@@ -47,9 +47,9 @@ one_less v p c u lv lc e low is =
 -- what is multiplied so is the product
 pub multiple_is : (m : ShiftedSum) (c v u : ℕ) → v < 2 ^ 32 → c < 2 ^ 32 → multiple c ≡ Some m → wrap (v * c) ≡ u → IsMultiple m v u
 multiple_is m c v u lv lc is e = cond_both (is_power c) None _ Given (λ _ is. absurd (none-some m is))
-    (λ _. cond_both (is_power (c - 1)) (Some (record { op = Addu; amount = exponent (c - 1) % 32 })) _ Given
+    (λ _. cond_both (is_power (c - 1)) (Some (record { op = Addu; amount = exponent (c - 1) })) _ Given
     (λ b is. rw (← same_Some _ m is) (made Addu (c - 1) v u b (λ low. ap Some (one_more v c u low e))))
-    (λ _. cond_both (is_power (next_word c)) (Some (record { op = Subu; amount = exponent (next_word c) % 32 })) None Given
+    (λ _. cond_both (is_power (next_word c)) (Some (record { op = Subu; amount = exponent (next_word c) })) None Given
     (λ b is. rw (← same_Some _ m is) (made Subu (next_word c) v u b (λ low. ap Some (one_less v (next_word c) c u lv lc refl low e))))
     (λ _ is. absurd (none-some m is)))) is
   where

@@ -6,14 +6,14 @@ use Rattle.rtl.specs.declared.operator.Op.TheVariants.{Add, Sub}
 use Rattle.mips_homes.specs.declared.homed.Home.{Home}
 use Rattle.mips_homes.specs.declared.homed.Home.TheVariants.{Reg}
 use Rattle.mips_emit.specs.declared.location.Source.{Source}
-use Rattle.mips_emit.specs.declared.location.Source.TheVariants.{From}
+use Rattle.mips_emit.specs.declared.location.Source.TheVariants.{InRegister}
 use Rattle.mips_emit.specs.Offsets.{addend, sum_offset}
 
 -- an operator adds a word or none, whatever the word is
 pub no_sum : (place : Option Home) (op : Op) (right : Option ℕ) (x : Source) → is_none (addend op 0) ≡ true → sum_offset place op right x ≡ None
-no_sum (Some (Reg t)) Add (Some c) (From (Reg r)) none = absurd (true≢false (sym none))
-no_sum (Some (Reg t)) Sub (Some c) (From (Reg r)) none = absurd (true≢false (sym none))
-no_sum (Some (Reg t)) _ (Some c) (From (Reg r)) none = refl
+no_sum (Some (Reg t)) Add (Some c) (InRegister r) none = absurd (true≢false (sym none))
+no_sum (Some (Reg t)) Sub (Some c) (InRegister r) none = absurd (true≢false (sym none))
+no_sum (Some (Reg t)) _ (Some c) (InRegister r) none = refl
 no_sum _ _ _ _ none = refl
 
 -- nor is one left where the right operand is no known word

@@ -1,6 +1,7 @@
 -- The machine code of each instruction, and of arguments. The scratch registers are free between instructions.
 use Rattle.std.specs.Prelude.{ℕ, ℤ, pos, negsuc, suc, ◌-◌, ◌*◌, ◌/◌, ◌%◌, ◌^◌, Bool, true, false, ◌||◌, ◌&&◌, nat_eq, nat_lt}
 use Rattle.std.specs.Prelude.{◌+◌, if◌then◌else◌, List, [], ◌∷◌, ◌++◌, Option, Some, None, slice_index}
+use Rattle.std.specs.Option.{option_and_then, option_to_list}
 use Rattle.std.specs.Int.{w32, trailing_zeros}
 use Rattle.words.specs.declared.sign.Sign.TheVariants.{Signed, Unsigned}
 use Rattle.words.specs.declared.width.Width.{Width}
@@ -28,7 +29,7 @@ use Rattle.mips_homes.specs.declared.homed.Home.TheVariants.{Reg, Slot, Copied}
 use Rattle.mips_emit.specs.declared.location.Source.{Source}
 use Rattle.mips_emit.specs.declared.product.ShiftedSum.{ShiftedSum}
 use Rattle.mips_emit.specs.declared.operation.Operand.{Operand}
-use Rattle.mips_emit.specs.declared.location.Source.TheVariants.{Zero, Word, From}
+use Rattle.mips_emit.specs.declared.location.Source.TheVariants.{Zero, Word, InRegister, InSlot}
 use Rattle.mips_emit.specs.declared.element.Reach.{Reach}
 use Rattle.mips_emit.specs.declared.element.Reach.TheVariants.{ByScratch, ByNew}
 use Rattle.mips_emit.specs.declared.offset.Offset.{Offset}
@@ -81,27 +82,23 @@ move_code t r = Alu alu.Addu t r 0
 -- an operand: what stands before, and the register that shows it then
 abbrev pub fetch : ℕ → Source → List Plain
 fetch t (Word w) = li t w
-fetch t (From (Slot k)) = load_word_at t (4 * k) ∷ []
+fetch t (InSlot k) = load_word_at t (4 * k) ∷ []
 fetch t _ = []
 
 abbrev pub operand_register : ℕ → Source → ℕ
 operand_register t Zero = 0
-operand_register t (From (Reg r)) = r
-operand_register t (From (Copied r k)) = r
+operand_register t (InRegister r) = r
 operand_register t _ = t
 
 -- an operand into a register of its own
 abbrev pub bring : ℕ → Source → List Plain
 bring t Zero = move_code t 0 ∷ []
-bring t (Word w) = li t w
-bring t (From (Reg r)) = move_code t r ∷ []
-bring t (From (Slot k)) = load_word_at t (4 * k) ∷ []
-bring t (From (Copied r k)) = move_code t r ∷ []
+bring t (InRegister r) = move_code t r ∷ []
+bring t x = fetch t x
 
 -- the same, but nothing where the operand is in that register
 abbrev pub stays : ℕ → Source → Bool
-stays t (From (Reg r)) = nat_eq r t
-stays t (From (Copied r k)) = nat_eq r t
+stays t (InRegister r) = nat_eq r t
 stays t _ = false
 
 abbrev pub carry : ℕ → Source → List Plain
@@ -130,20 +127,15 @@ put_at (Some (Copied r k)) x = bring r x ++ store_word_at r (4 * k) ∷ []
 -- a register into a home
 abbrev pub arrive : Option Home → ℕ → List Plain
 arrive None t = []
-arrive (Some (Reg r)) t = carry r (From (Reg t))
+arrive (Some (Reg r)) t = carry r (InRegister t)
 arrive (Some (Slot k)) t = store_word_at t (4 * k) ∷ []
-arrive (Some (Copied r k)) t = carry r (From (Reg t)) ++ store_word_at r (4 * k) ∷ []
+arrive (Some (Copied r k)) t = carry r (InRegister t) ++ store_word_at r (4 * k) ∷ []
 
 -- ---- operators
 
 -- an instruction, and a second one after it, if there is one
 abbrev pub one_or_two : Plain → Option Plain → List Plain
-one_or_two i None = i ∷ []
-one_or_two i (Some j) = i ∷ j ∷ []
-
-abbrev pub as_list : Option Plain → List Plain
-as_list None = []
-as_list (Some j) = j ∷ []
+one_or_two i o = i ∷ option_to_list o
 
 -- an operator on registers a and b into register d; a test of equality is one of the difference
 abbrev pub operation : Op → (d a b : ℕ) → List Plain
@@ -206,8 +198,7 @@ immediate RemU d q c = if is_power c then (if nat_lt (c - 1) 65536 then Some (Lo
 immediate _ d q c = None
 
 abbrev pub immediate_of : Op → (d q : ℕ) → (known : Option ℕ) → Option Plain
-immediate_of op d q None = None
-immediate_of op d q (Some c) = immediate op d q c
+immediate_of op d q known = option_and_then (immediate op d q) known
 
 -- operators that give the same on turned operands
 abbrev pub is_symmetric : Op → Bool
@@ -251,8 +242,8 @@ code_by_word op t d x y = code_by_right op t d (immediate_of op d (operand_regis
 abbrev pub multiple : ℕ → Option ShiftedSum
 multiple c =
     if is_power c then None
-    else if is_power (c - 1) then Some (record { op = alu.Addu; amount = exponent (c - 1) % 32 })
-    else if is_power (next_word c) then Some (record { op = alu.Subu; amount = exponent (next_word c) % 32 })
+    else if is_power (c - 1) then Some (record { op = alu.Addu; amount = exponent (c - 1) })
+    else if is_power (next_word c) then Some (record { op = alu.Subu; amount = exponent (next_word c) })
     else None
 
 abbrev pub multiple_of : Op → (known : Option ℕ) → Option ShiftedSum
@@ -260,7 +251,7 @@ multiple_of Mul (Some c) = multiple c
 multiple_of _ _ = None
 
 abbrev pub multiple_code : (t d : ℕ) → ShiftedSum → Source → List Plain
-multiple_code t d m x = fetch t x ++ Shift Sll SCRATCH_2 (operand_register t x) m.amount ∷ Alu m.op d SCRATCH_2 (operand_register t x) ∷ []
+multiple_code t d m x = fetch t x ++ Shift Sll SCRATCH_2 (operand_register t x) (m.amount % 32) ∷ Alu m.op d SCRATCH_2 (operand_register t x) ∷ []
 
 -- the product where it is one, else other code
 abbrev pub code_by_multiple : (t d : ℕ) → Option ShiftedSum → Source → (other : List Plain) → List Plain
@@ -306,10 +297,6 @@ element_code w start ByScratch x = fetch SCRATCH_1 x ++ base_code w SCRATCH_1 st
 element_code w start (ByNew q c) x = base_code w KEPT_BASE start q
 element_code w start _ x = []
 
-abbrev pub bin_code : Locations → Facts → Op → (d a b : ℕ) → List Plain
-bin_code at facts op d a b =
-    op_code op (inner_of (at d)) (into (at d)) (operand_with at facts a) (operand_with at facts b) ++ finish (at d)
-
 -- an element into a register, and back
 abbrev pub element_load : Width → ℕ → (start : ℕ) → Reach → Plain
 element_load w t start by = plain.Load w t (element_base by) (element_offset w start by)
@@ -337,7 +324,8 @@ const_code l w = put_at l (word_source w)
 abbrev pub inst_code : List RGlobal → (starts : ℕ → ℕ) → Locations → Facts → RInst → List Plain
 inst_code globals starts at facts (Const d w) = const_code (at d) (wrap w)
 inst_code globals starts at facts (Move d a) = put_at (at d) (operand at facts a)
-inst_code globals starts at facts (Bin op d a b) = bin_code at facts op d a b
+inst_code globals starts at facts (Bin op d a b) =
+    op_code op (inner_of (at d)) (into (at d)) (operand_with at facts a) (operand_with at facts b) ++ finish (at d)
 inst_code globals starts at facts (Load d a i) =
     load_code (at d) (width_of globals a) (starts a) (reach_of globals starts at facts a i) (operand at facts i)
 inst_code globals starts at facts (Store a i b) =

@@ -1,7 +1,7 @@
 -- Operators that are one with the exit after them: comparisons with a branch on their result, any with a return of it. And the code of
 -- several instructions.
 use Rattle.std.specs.Prelude.{ℕ, Bool, true, false, not, ◌&&◌, nat_eq, if◌then◌else◌, List, [], ◌∷◌, ◌++◌, Option, Some, None}
-use Rattle.std.specs.Option.{is_some}
+use Rattle.std.specs.Option.{is_some, option_map, option_map_or}
 use Rattle.mips_isa.specs.declared.inst.PairTest.TheVariants.{Equal, NotEqual}
 use Rattle.mips_isa.specs.declared.inst.ZeroTest.TheVariants.{AtMostZero, AboveZero, BelowZero, AtLeastZero}
 use Rattle.mips_isa.specs.declared.inst.Plain.{Plain}
@@ -30,8 +30,7 @@ use Rattle.mips_emit.specs.Code.{Context, operand_with, fetch, operand_register,
 -- ---- forms
 
 abbrev pub is_known_zero : Option ℕ → Bool
-is_known_zero None = false
-is_known_zero (Some w) = nat_eq w 0
+is_known_zero known = option_map_or (λ w. nat_eq w 0) known false
 
 -- a word that an operator has in its instruction
 abbrev pub is_immediate : Op → (known : Option ℕ) → Bool
@@ -55,19 +54,9 @@ form_of LeU l r = Some (opposite_if (not (is_immediate LeU r)))
 form_of _ l r = None
 
 -- whether the result of an operator on known words isn't 0
-abbrev pub truth_of : (result : Option ℕ) → Option Bool
-truth_of None = None
-truth_of (Some u) = Some (not (nat_eq u 0))
-
 abbrev pub known_truth : Op → (left right : Option ℕ) → Option Bool
-known_truth op (Some a) (Some b) = truth_of (op_result op a b)
+known_truth op (Some a) (Some b) = option_map (λ u. not (nat_eq u 0)) (op_result op a b)
 known_truth op _ _ = None
-
--- a comparison of known words isn't made
-abbrev pub form_with : (truth : Option Bool) → Option Form → Option Form
-form_with truth None = None
-form_with None (Some form) = Some form
-form_with (Some b) (Some form) = Some (Known b)
 
 -- one is less than another where that isn't at most the one
 abbrev pub opposite_op : Op → Op
@@ -113,10 +102,10 @@ is_asked Nothing d = false
 is_asked (Branched c) d = nat_eq c d
 is_asked (Returned c) d = nat_eq c d
 
--- a branch goes by comparisons, a return by any operator
+-- a branch goes by comparisons, but one of known words isn't made; a return goes by any operator
 abbrev pub form_for : Asked → Op → (left right : Option ℕ) → Option Form
 form_for Nothing op l r = None
-form_for (Branched c) op l r = form_with (known_truth op l r) (form_of op l r)
+form_for (Branched c) op l r = option_map (option_map_or Known (known_truth op l r)) (form_of op l r)
 form_for (Returned c) op l r = Some InResult
 
 -- a home that no other block reads
@@ -124,15 +113,12 @@ abbrev pub is_caller_saved : Option Home → Bool
 is_caller_saved (Some (Reg r)) = not (is_callee_saved r)
 is_caller_saved _ = false
 
-abbrev pub operator_comparison : ℕ → Op → (left right : Operand) → Option Form → Option Comparison
-operator_comparison d op l r None = None
-operator_comparison d op l r (Some form) = Some (record { result = d; op = op; form = form; left = l; right = r })
-
 -- an instruction that is one with the branch after it, which goes by the pseudo-register asked for
 abbrev pub comparison_of : Locations → Facts → Asked → RInst → Option Comparison
 comparison_of at facts asked (Bin op d a b) =
     if is_asked asked d && is_caller_saved (at d)
-    then operator_comparison d op (operand_with at facts a) (operand_with at facts b) (form_for asked op (known_in facts a) (known_in facts b))
+    then option_map (λ form. record { result = d; op = op; form = form; left = operand_with at facts a; right = operand_with at facts b })
+    (form_for asked op (known_in facts a) (known_in facts b))
     else None
 comparison_of at facts asked _ = None
 

@@ -1,7 +1,7 @@
 -- Elements of globals in data memory: where they are, and how instructions reach them.
-use Rattle.std.specs.Prelude.{◌≡◌, ℕ, ℤ, pos, negsuc, ◌+◌, ◌-◌, ◌*◌, ◌/◌, ◌%◌, ◌≤◌, Bool, ◌&&◌, Option, Some, None, List, [], ◌∷◌, ◌++◌, nat_lt, nat_eq}
-use Rattle.std.specs.Prelude.{slice_get}
-use Rattle.std.specs.Prelude.{if◌then◌else◌}
+use Rattle.std.specs.Prelude.{◌≡◌, ℕ, ℤ, pos, negsuc, ◌+◌, ◌-◌, ◌*◌, ◌/◌, ◌%◌, ◌≤◌, Bool, ◌&&◌, Option, Some, None, List, [], ◌∷◌, nat_lt}
+use Rattle.std.specs.Prelude.{nat_eq, slice_get, if◌then◌else◌}
+use Rattle.std.specs.Option.{option_map_or}
 use Rattle.words.specs.declared.width.Width.{Width}
 use Rattle.words.specs.declared.width.Width.TheVariants.{Word, Byte}
 use Rattle.mips_isa.specs.declared.inst.ShiftOp.TheVariants.{Sll}
@@ -24,13 +24,9 @@ abbrev pub width_bytes : Width → ℕ
 width_bytes Word = 4
 width_bytes Byte = 1
 
-abbrev pub width_in : Option RGlobal → Width
-width_in None = Word
-width_in (Some global) = global.width
-
 -- the width of a global's elements
 abbrev pub width_of : List RGlobal → ℕ → Width
-width_of globals a = width_in (slice_get globals a)
+width_of globals a = option_map_or (λ (global : RGlobal). global.width) (slice_get globals a) Word
 
 -- the first byte of an element among the bytes of data, from that of its global
 abbrev pub element_place : Width → (start i : ℕ) → ℕ
@@ -75,23 +71,15 @@ page at = (at + 32768) / 65536
 abbrev pub low : ℕ → ℤ
 low at = if nat_lt (at % 65536) 32768 then pos (at % 65536) else negsuc (65535 - at % 65536)
 
--- an index in register q, times the width, through register t
-abbrev pub scaled : Width → (t q : ℕ) → List Plain
-scaled Word t q = Shift Sll t q 2 ∷ []
-scaled Byte t q = []
-
-abbrev pub scaled_register : Width → (t q : ℕ) → ℕ
-scaled_register Word t q = t
-scaled_register Byte t q = q
-
--- from an index in register q to a base for the element, in register t, and the offset from it
+-- from an index in register q, times the width, to a base for the element, in register t, and the offset from it
 abbrev pub base_sum : (t start q : ℕ) → List Plain
 base_sum t start q =
     if nat_lt start 65536 then Alu Addu t q GLOBAL_POINTER ∷ []
     else LoadUpper SCRATCH_2 (page (address_of_place start)) ∷ Alu Addu t q SCRATCH_2 ∷ []
 
 abbrev pub base_code : Width → (t start q : ℕ) → List Plain
-base_code w t start q = scaled w t q ++ base_sum t start (scaled_register w t q)
+base_code Word t start q = Shift Sll t q 2 ∷ base_sum t start t
+base_code Byte t start q = base_sum t start q
 
 abbrev pub base_offset : ℕ → ℤ
 base_offset start = if nat_lt start 65536 then near start else low (address_of_place start)

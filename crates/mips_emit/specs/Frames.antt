@@ -37,20 +37,17 @@ pub record AreFrameHomes (homes : List Home) (slots : ℕ) : Type 0 where
   pub apart : AreApart homes
   pub copied : AreCopies homes
 
--- what a frame takes at most: a word for each slot, for each register that is saved, and for the link
-abbrev pub frame_size : Frame → ℕ
-frame_size f = 4 * (f.slots + length f.saved.items + 1)
-
 -- the words that a frame has for the link: none in a leaf, which is a function without calls
 abbrev pub link_words : (leaf : Bool) → ℕ
 link_words true = 0
 link_words false = 1
 
--- homes are registers and slots of the frame, callee-saved registers are saved, and the frame has at most so many bytes
+-- homes are registers and slots of the frame, callee-saved registers are saved, and the frame has at most so many bytes: a word for each
+-- slot, for each register that is saved, and for the link
 pub record IsFrame (most : ℕ) (f : Frame) : Type 0 where
   pub homes : AreFrameHomes f.homes.items f.slots
   pub saved : (j r : ℕ) → slice_get f.saved.items j ≡ Some r → IsCalleeSaved r
-  pub fits : frame_size f ≤ most
+  pub fits : 4 * (f.slots + length f.saved.items + 1) ≤ most
 
 -- within reach of the stack pointer
 abbrev pub IsReachable : Frame → Type 0

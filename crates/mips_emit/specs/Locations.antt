@@ -1,6 +1,7 @@
 -- Where pseudo-registers are, and which words they are known to hold.
 use Rattle.std.specs.Prelude.{ℕ, ◌+◌, ◌-◌, ◌*◌, ◌%◌, ◌≤◌, Option, Some, None, List, [], ◌∷◌, take, reverse, nat_eq, if◌then◌else◌}
 use Rattle.std.specs.Prelude.{slice_get}
+use Rattle.std.specs.Option.{option_flatten, option_map_or, option_or}
 use Rattle.words.specs.Words.{wrap}
 use Rattle.runs.specs.Stores.{Places, places_with}
 use Rattle.rtl.specs.declared.instruction.RInst.{RInst}
@@ -12,11 +13,11 @@ use Rattle.mips_homes.specs.declared.homed.Home.TheVariants.{Reg, Slot, Copied}
 use Rattle.mips_homes.specs.declared.homed.Frame.{Frame}
 use Rattle.mips_emit.specs.declared.limits.TheConstants.{FRAME_BYTES, KEPT_FACTS}
 use Rattle.mips_emit.specs.declared.location.Source.{Source}
-use Rattle.mips_emit.specs.declared.location.Source.TheVariants.{Zero, Word, From}
+use Rattle.mips_emit.specs.declared.location.Source.TheVariants.{Zero, Word, InRegister, InSlot}
 use Rattle.mips_emit.specs.declared.facts.Fact.{Fact}
 use Rattle.mips_emit.specs.declared.facts.Kept.{Kept}
 use Rattle.mips_emit.specs.declared.offset.Offset.{Offset}
-use Rattle.mips_emit.specs.Offsets.{sum_offset, or_offset, past, offset_past, index_with}
+use Rattle.mips_emit.specs.Offsets.{sum_offset, past, offset_past, index_with}
 use Rattle.mips_emit.specs.declared.facts.Knowledge.{Knowledge}
 use Rattle.mips_emit.specs.declared.facts.Last.{Last}
 
@@ -61,51 +62,44 @@ abbrev pub with_fact : ℕ → Option ℕ → List Fact → List Fact
 with_fact x word facts = take KEPT_FACTS ((let f : Fact = record { register = x; word = word } in f) ∷ facts)
 
 -- a constant isn't put into a caller-saved register, unless that is a copy; what is put anywhere else is there
-abbrev pub deferred_const : Option Home → ℕ → Places → Places
-deferred_const (Some (Reg r)) w deferred = places_with deferred r (if is_callee_saved r then None else Some w)
-deferred_const _ w deferred = deferred
-
-abbrev pub deferred_none : Option Home → Places → Places
-deferred_none (Some (Reg r)) deferred = places_with deferred r None
-deferred_none _ deferred = deferred
+abbrev pub deferred_with : Option Home → (constant : Option ℕ) → Places → Places
+deferred_with (Some (Reg r)) None deferred = places_with deferred r None
+deferred_with (Some (Reg r)) (Some w) deferred = places_with deferred r (if is_callee_saved r then None else Some w)
+deferred_with _ constant deferred = deferred
 
 -- ---- operands
 
 -- a word that is known, and one that a register holds besides
 abbrev pub known_source : ℕ → Option Home → Source
-known_source w (Some (Reg r)) = From (Reg r)
-known_source w (Some (Copied r k)) = From (Reg r)
+known_source w (Some (Reg r)) = InRegister r
+known_source w (Some (Copied r k)) = InRegister r
 known_source w _ = Word w
 
 -- an operand, from the word that it is known to hold and where it is
 abbrev pub source : (known : Option ℕ) → Option Home → Source
 source None None = Zero
-source None (Some (Reg r)) = From (Reg r)
-source None (Some (Slot k)) = From (Slot k)
-source None (Some (Copied r k)) = From (Reg r)
+source None (Some (Reg r)) = InRegister r
+source None (Some (Slot k)) = InSlot k
+source None (Some (Copied r k)) = InRegister r
 source (Some w) o = if nat_eq w 0 then Zero else known_source w o
 
 -- a word as an operand
 abbrev pub word_source : ℕ → Source
-word_source w = if nat_eq w 0 then Zero else Word w
+word_source w = source (Some w) None
 
 -- what a home should hold but doesn't yet
 abbrev pub deferred_at : Places → Option Home → Option ℕ
 deferred_at deferred (Some (Reg r)) = deferred r
 deferred_at deferred _ = None
 
-abbrev pub deferred_source : Option ℕ → Source → Source
-deferred_source None x = x
-deferred_source (Some w) x = word_source w
-
 abbrev pub operand : Locations → Facts → ℕ → Source
-operand at facts x = deferred_source (deferred_at facts.deferred (at x)) (source (known_in facts x) (at x))
+operand at facts x = option_map_or word_source (deferred_at facts.deferred (at x)) (source (known_in facts x) (at x))
 
 -- ---- what is known after an instruction
 
 -- the register of an index that is no known word
 abbrev pub index_register : (known : Option ℕ) → Source → Option ℕ
-index_register None (From (Reg r)) = Some r
+index_register None (InRegister r) = Some r
 index_register _ _ = None
 
 abbrev pub index_of : Locations → Facts → ℕ → Option Offset
@@ -120,22 +114,21 @@ kept_with a (Some o) kept = Some (record { global = a; index = o })
 abbrev pub kept_past : Option Home → Option Kept → Option Kept
 kept_past l kept = past (λ k. k.index) l kept
 
-abbrev pub written : Option Home → ℕ → Option ℕ → Facts → Facts
-written l d word facts = record {
+abbrev pub written : Option Home → ℕ → (word constant : Option ℕ) → Facts → Facts
+written l d word constant facts = record {
   known = with_fact d word facts.known;
-  deferred = deferred_none l facts.deferred;
+  deferred = deferred_with l constant facts.deferred;
   kept = kept_past l facts.kept;
   offset = offset_past l facts.offset;
 }
 
 abbrev pub learned : Locations → RInst → Facts → Facts
-learned at (Const d w) facts =
-    record (written (at d) d (Some (wrap w)) facts) { deferred = deferred_const (at d) (wrap w) facts.deferred }
-learned at (Move d a) facts = written (at d) d (known_in facts a) facts
-learned at (Bin op d a b) facts = record (written (at d) d None facts) {
-  offset = or_offset (sum_offset (at d) op (known_in facts b) (operand at facts a)) (offset_past (at d) facts.offset);
+learned at (Const d w) facts = written (at d) d (Some (wrap w)) (Some (wrap w)) facts
+learned at (Move d a) facts = written (at d) d (known_in facts a) None facts
+learned at (Bin op d a b) facts = record (written (at d) d None None facts) {
+  offset = option_or (sum_offset (at d) op (known_in facts b) (operand at facts a)) (offset_past (at d) facts.offset);
 }
-learned at (Load d a i) facts = written (at d) d None (record facts { kept = kept_with a (index_of at facts i) facts.kept })
+learned at (Load d a i) facts = written (at d) d None None (record facts { kept = kept_with a (index_of at facts i) facts.kept })
 learned at (Store a i b) facts = record facts { kept = kept_with a (index_of at facts i) facts.kept }
 
 -- and after several
@@ -144,12 +137,8 @@ known_after at [] facts = facts
 known_after at (i ∷ is) facts = known_after at is (learned at i facts)
 
 -- the words of a table, by their places
-abbrev pub flatten : Option (Option ℕ) → Option ℕ
-flatten None = None
-flatten (Some o) = o
-
 abbrev pub word_in : List (Option ℕ) → Places
-word_in table q = flatten (slice_get table q)
+word_in table q = option_flatten (slice_get table q)
 
 -- the last of some facts, the newest first
 abbrev pub newest : List Fact → List Fact
@@ -183,7 +172,7 @@ last_of at facts i = record { fresh = fresh_of at i; comparison = None }
 -- an operand of an exit: what the last instruction left in its inner temporary, or any other
 abbrev pub fresh_source : Option ℕ → (x inner : ℕ) → Source → Source
 fresh_source None x inner other = other
-fresh_source (Some y) x inner other = if nat_eq y x then From (Reg inner) else other
+fresh_source (Some y) x inner other = if nat_eq y x then InRegister inner else other
 
 abbrev pub last_operand : Locations → Facts → Option ℕ → ℕ → Source
 last_operand at facts fresh x = fresh_source fresh x (inner_of (at x)) (operand at facts x)
@@ -200,5 +189,5 @@ FitsPlace None = Unit {0}
 FitsPlace (Some h) = FitsHome h
 
 abbrev pub FitsSource : Source → Type 0
-FitsSource (From h) = FitsHome h
+FitsSource (InSlot k) = 4 * k ≤ FRAME_BYTES
 FitsSource _ = Unit {0}

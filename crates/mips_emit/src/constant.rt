@@ -2,11 +2,12 @@
 
 #![tactic(auto, using(crate::proofs::Prefixes::prefix_behind, crate::proofs::Prefixes::prefix_among, crate::proofs::Prefixes::emits_behind))]
 
-ghost use Rattle.std.specs.Prelude.{◌≡◌, ◌≤◌, ◌<◌, ◌∷◌, [], true};
+ghost use Rattle.std.specs.Prelude.{◌≤◌, ◌∷◌, []};
 ghost use Rattle.mips_emit.specs.declared.limits.TheConstants.{FRAME_BYTES};
-ghost use Rattle.mips_emit.specs.Code.{one_or_two, constant, is_small, half, li, load_word_at, store_word_at, move_code};
+ghost use Rattle.mips_emit.specs.Code.{one_or_two, constant, li, load_word_at, store_word_at, move_code};
 ghost use Rattle.mips_emit.specs.Prefixes.{Emits};
 
+use crate::plain::{alu, imm, is_small, load_upper, logic};
 use mips_homes::STACK_POINTER;
 use mips_isa::{AluOp, ImmOp, LogicOp, NonzeroReg, Plain, Reg};
 use std::alloc::AllocError;
@@ -63,53 +64,19 @@ pub fn emit_store_word(code: &mut Vec<Plain>, rt: Reg, offset: u32) -> Result<()
     emit_one(code, inst)
 }
 
-/// Emits one register into another.
-pub(crate) fn emit_move(code: &mut Vec<Plain>, rd: Reg, rs: Reg) -> Result<(), AllocError>
+/// Emits one register into another; an Err means out of memory.
+pub fn emit_move(code: &mut Vec<Plain>, rd: Reg, rs: Reg) -> Result<(), AllocError>
     ensures { Emits result code.old.items (move_code rd rs ∷ []) code.new.items }
 {
-    let inst = Plain::Alu {
-        op: AluOp::Addu,
-        rd,
-        rs,
-        rt: Reg::ZERO,
-    };
-    emit_one(code, inst)
-}
-
-/// Reports whether a word fits the 16 bits of an instruction, signed.
-pub(crate) fn is_small(word: u32) -> bool
-    ensures { result ≡ is_small word }
-{
-    word < 32_768 || 4_294_934_527 < word
-}
-
-/// Returns such a word as a signed number.
-pub(crate) fn half(word: u32) -> i16
-    requires { is_small word ≡ true }
-    ensures { result ≡ half word }
-{
-    if word < 32_768 {
-        word as i16
-    } else {
-        -1 - (4_294_967_295 - word) as i16
-    }
+    emit_one(code, alu(AluOp::Addu, rd, rs, Reg::ZERO))
 }
 
 /// Emits a word into a register, in two instructions; an Err means out of memory.
 pub fn emit_constant(code: &mut Vec<Plain>, rt: Reg, word: u32) -> Result<(), AllocError>
     ensures { Emits result code.old.items (constant rt word) code.new.items }
 {
-    let upper = Plain::LoadUpper {
-        rt,
-        imm: (word / 65_536 % 65_536) as u16,
-    };
-    let lower = Plain::Logic {
-        op: LogicOp::Ori,
-        rt,
-        rs: rt,
-        imm: (word % 65_536) as u16,
-    };
-    emit_one_or_two(code, upper, Some(lower))
+    let lower = logic(LogicOp::Ori, rt, rt, (word % 65_536) as u16);
+    emit_one_or_two(code, load_upper(rt, word), Some(lower))
 }
 
 /// Emits a word into a register, as short as it can be.
@@ -117,27 +84,11 @@ pub(crate) fn emit_li(code: &mut Vec<Plain>, rt: Reg, word: u32) -> Result<(), A
     ensures { Emits result code.old.items (li rt word) code.new.items }
 {
     if is_small(word) {
-        let inst = Plain::Imm {
-            op: ImmOp::Addiu,
-            rt,
-            rs: Reg::ZERO,
-            imm: half(word),
-        };
-        emit_one(code, inst)
+        emit_one(code, imm(ImmOp::Addiu, rt, Reg::ZERO, word))
     } else if word < 65_536 {
-        let inst = Plain::Logic {
-            op: LogicOp::Ori,
-            rt,
-            rs: Reg::ZERO,
-            imm: word as u16,
-        };
-        emit_one(code, inst)
+        emit_one(code, logic(LogicOp::Ori, rt, Reg::ZERO, word as u16))
     } else if word % 65_536 == 0 {
-        let inst = Plain::LoadUpper {
-            rt,
-            imm: (word / 65_536 % 65_536) as u16,
-        };
-        emit_one(code, inst)
+        emit_one(code, load_upper(rt, word))
     } else {
         emit_constant(code, rt, word)
     }

@@ -5,9 +5,7 @@
 ghost use Rattle.std.specs.Prelude.{◌≡◌, ◌≤◌, ◌<◌, ◌&&◌, nat_eq};
 ghost use Rattle.mblock.specs.declared.limits.TheConstants.{UNIT_BYTES};
 ghost use Rattle.mips_emit.specs.Locations.{FitsSource};
-ghost use Rattle.mips_emit.specs.Elements.{width_bytes, address_of_place, direct, near, page, low, scaled};
-ghost use Rattle.mips_emit.specs.Elements.{scaled_register};
-ghost use Rattle.mips_emit.specs.declared.element.Reach.TheVariants.{ByScratch};
+ghost use Rattle.mips_emit.specs.Elements.{width_bytes, address_of_place, direct, near, page, low};
 ghost use Rattle.mips_emit.specs.Elements.{base_sum, base_code, base_offset, base_word, element_base, element_offset};
 ghost use Rattle.mips_emit.specs.Elements.{shifted_place, fits_offset, base_index, shifted_offset, reach_by};
 ghost use Rattle.mips_emit.specs.Code.{element_code, element_load, element_store};
@@ -16,9 +14,10 @@ ghost use Rattle.mips_emit.specs.Prefixes.{Emits};
 use crate::constant::{emit_one, emit_one_or_two};
 use crate::location::Source;
 use crate::offset::Offset;
+use crate::plain::{alu, shift};
 use crate::transfer::{emit_fetch, operand_register};
 use mips_homes::{GLOBAL_POINTER, SCRATCH_1, SCRATCH_2, register};
-use mips_isa::{AluOp, Amount, DATA_BASE, NonzeroReg, Plain, Reg, ShiftOp};
+use mips_isa::{AluOp, DATA_BASE, NonzeroReg, Plain, Reg, ShiftOp};
 use std::alloc::AllocError;
 use words::Width;
 
@@ -36,6 +35,15 @@ pub enum Reach {
     ByKept(u32),
     /// From that base, made from a register, so many elements after it.
     ByNew(NonzeroReg, u32),
+}
+
+/// An element: its width, where its global begins, and how it is reached.
+#[derive(Clone, Copy)]
+pub(crate) struct Element {
+    pub width: Width,
+    pub start: u32,
+    pub by: Reach,
+    ghost few: { start ≤ UNIT_BYTES },
 }
 
 /// Returns how many bytes an element has.
@@ -176,63 +184,19 @@ pub(crate) fn reach_by(
     }
 }
 
-/// Emits an index in a register, times the width, through another.
-fn emit_scaled(
-    code: &mut Vec<Plain>,
-    width: Width,
-    t: NonzeroReg,
-    index: Reg,
-) -> Result<(), AllocError>
-    ensures { Emits result code.old.items (scaled width t index) code.new.items }
-{
-    match width {
-        Width::Word => {
-            let inst = Plain::Shift {
-                op: ShiftOp::Sll,
-                rd: t.reg(),
-                rt: index,
-                amount: Amount::masked(2),
-            };
-            emit_one(code, inst)
-        }
-        Width::Byte => Ok(()),
-    }
-}
-
-/// Returns the register that shows it then.
-fn scaled_register(width: Width, t: NonzeroReg, index: Reg) -> Reg
-    ensures { result ≡ scaled_register width t index }
-{
-    match width {
-        Width::Word => t.reg(),
-        Width::Byte => index,
-    }
-}
-
 /// Emits the way from a scaled index to a base for the element, in a register.
 fn emit_sum(code: &mut Vec<Plain>, t: NonzeroReg, start: u32, index: Reg) -> Result<(), AllocError>
     requires { start ≤ UNIT_BYTES }
     ensures { Emits result code.old.items (base_sum t start index) code.new.items }
 {
-    let base = Reg::masked(if start < 65_536 {
-        GLOBAL_POINTER
-    } else {
-        SCRATCH_2
-    });
-    let sum = Plain::Alu {
-        op: AluOp::Addu,
-        rd: t.reg(),
-        rs: index,
-        rt: base,
-    };
     if start < 65_536 {
-        return emit_one(code, sum);
+        let base = Reg::masked(GLOBAL_POINTER);
+        return emit_one(code, alu(AluOp::Addu, t.reg(), index, base));
     }
-    let upper = Plain::LoadUpper {
-        rt: base,
-        imm: page_of(start),
-    };
-    emit_one_or_two(code, upper, Some(sum))
+    let rt = Reg::masked(SCRATCH_2);
+    let imm = page_of(start);
+    let sum = alu(AluOp::Addu, t.reg(), index, rt);
+    emit_one_or_two(code, Plain::LoadUpper { rt, imm }, Some(sum))
 }
 
 /// Returns the offset from that base.
@@ -258,42 +222,33 @@ fn emit_base(
     requires { start ≤ UNIT_BYTES }
     ensures { Emits result code.old.items (base_code width t start index) code.new.items }
 {
-    emit_scaled(code, width, t, index)?;
-    emit_sum(code, t, start, scaled_register(width, t, index))
-}
-
-/// Emits a base for an element, in a scratch register.
-fn emit_scratch(
-    code: &mut Vec<Plain>,
-    width: Width,
-    start: u32,
-    x: &Source,
-) -> Result<(), AllocError>
-    requires few { start ≤ UNIT_BYTES }
-    requires fits { FitsSource x.now }
-    ensures { Emits result code.old.items (element_code width start ByScratch x.now) code.new.items }
-{
-    let t = register(SCRATCH_1);
-    let index = operand_register(t, x);
-    emit_fetch(code, t, x)?;
-    emit_base(code, width, t, start, index)
+    match width {
+        Width::Word => {
+            emit_one(code, shift(ShiftOp::Sll, t.reg(), index, 2))?;
+            emit_sum(code, t, start, t.reg())
+        }
+        Width::Byte => emit_sum(code, t, start, index),
+    }
 }
 
 /// Emits what stands before an element is used; an Err means out of memory.
 pub(crate) fn emit_element(
     code: &mut Vec<Plain>,
-    width: Width,
-    start: u32,
-    by: &Reach,
+    element: &Element,
     x: &Source,
 ) -> Result<(), AllocError>
-    requires few { start ≤ UNIT_BYTES }
-    requires fits { FitsSource x.now }
-    ensures { Emits result code.old.items (element_code width start by.now x.now) code.new.items }
+    requires { FitsSource x.now }
+    ensures { Emits result code.old.items (element_code element.now.width element.now.start element.now.by x.now) code.new.items }
 {
-    match by {
+    let (width, start) = (element.width, element.start);
+    match element.by {
         Reach::ByPointer(_) | Reach::ByKept(_) => Ok(()),
-        Reach::ByScratch => emit_scratch(code, width, start, x),
+        Reach::ByScratch => {
+            let t = register(SCRATCH_1);
+            let index = operand_register(t, x);
+            emit_fetch(code, t, x)?;
+            emit_base(code, width, t, start, index)
+        }
         Reach::ByNew(q, _) => emit_base(code, width, register(KEPT_BASE), start, q.reg()),
     }
 }
@@ -310,39 +265,38 @@ fn element_base(by: &Reach) -> Reg
 }
 
 /// Returns the offset of an element from that register.
-fn element_offset(width: Width, start: u32, by: &Reach) -> i16
-    requires { start ≤ UNIT_BYTES }
-    ensures { result ≡ element_offset width start by.now }
+fn element_offset(element: &Element) -> i16
+    ensures { result ≡ element_offset element.now.width element.now.start element.now.by }
 {
-    match by {
-        Reach::ByPointer(p) => near(*p),
-        Reach::ByScratch => base_offset(start),
-        Reach::ByKept(word) | Reach::ByNew(_, word) => shifted_offset(width, start, *word),
+    match element.by {
+        Reach::ByPointer(p) => near(p),
+        Reach::ByScratch => base_offset(element.start),
+        Reach::ByKept(word) | Reach::ByNew(_, word) => {
+            shifted_offset(element.width, element.start, word)
+        }
     }
 }
 
 /// Returns a load of an element.
-pub(crate) fn element_load(width: Width, rt: NonzeroReg, start: u32, by: &Reach) -> Plain
-    requires { start ≤ UNIT_BYTES }
-    ensures { result ≡ element_load width rt start by.now }
+pub(crate) fn element_load(element: &Element, rt: NonzeroReg) -> Plain
+    ensures { result ≡ element_load element.now.width rt element.now.start element.now.by }
 {
     Plain::Load {
-        width,
+        width: element.width,
         rt,
-        base: element_base(by),
-        offset: element_offset(width, start, by),
+        base: element_base(&element.by),
+        offset: element_offset(element),
     }
 }
 
 /// Returns a store to an element.
-pub(crate) fn element_store(width: Width, rt: Reg, start: u32, by: &Reach) -> Plain
-    requires { start ≤ UNIT_BYTES }
-    ensures { result ≡ element_store width rt start by.now }
+pub(crate) fn element_store(element: &Element, rt: Reg) -> Plain
+    ensures { result ≡ element_store element.now.width rt element.now.start element.now.by }
 {
     Plain::Store {
-        width,
+        width: element.width,
         rt,
-        base: element_base(by),
-        offset: element_offset(width, start, by),
+        base: element_base(&element.by),
+        offset: element_offset(element),
     }
 }

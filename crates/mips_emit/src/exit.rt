@@ -9,15 +9,16 @@ ghost use Rattle.mips_emit.specs.Locations.{facts_of, locations, last_operand};
 ghost use Rattle.mips_emit.specs.Code.{arrive, carry, arguments_code};
 ghost use Rattle.mips_emit.specs.Prefixes.{Emits};
 
+use crate::constant::emit_store_word;
 use crate::facts::{Knowledge, last_operand};
-use crate::location::locate;
-use crate::transfer::{emit_arrive, emit_carry};
-use mips_homes::{FIRST_ARGUMENT, Frame, register};
+use crate::location::{Source, locate};
+use crate::transfer::emit_carry;
+use mips_homes::{FIRST_ARGUMENT, Frame, Home, register};
 use mips_isa::{NonzeroReg, Plain};
 use rtl::Register;
 use std::alloc::AllocError;
 
-/// Emits a register into a pseudo-register, as a parameter or a result is; an Err means out of memory.
+/// Emits a register into a pseudo-register, as a parameter or a result is, but where it is there already; an Err means out of memory.
 pub fn emit_arrival(
     code: &mut Vec<Plain>,
     frame: &Frame,
@@ -27,7 +28,17 @@ pub fn emit_arrival(
     requires { IsReachable frame.now }
     ensures { Emits result code.old.items (arrive (locations frame.now x) t) code.new.items }
 {
-    emit_arrive(code, &locate(frame, x), t)
+    let from = Source::InRegister(t);
+    let place = &locate(frame, x);
+    match *place {
+        None => Ok(()),
+        Some(Home::Reg(r)) => emit_carry(code, r, &from),
+        Some(Home::Slot(k)) => emit_store_word(code, t.reg(), 4 * k),
+        Some(Home::Copied(r, k)) => {
+            emit_carry(code, r, &from)?;
+            emit_store_word(code, r.reg(), 4 * k)
+        }
+    }
 }
 
 /// Emits a pseudo-register into a register of its own, after the last instruction; an Err means out of memory.

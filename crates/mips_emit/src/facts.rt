@@ -1,18 +1,19 @@
 //! Words that pseudo-registers are known to hold, and what the last instruction leaves for an exit.
 
-ghost use Rattle.std.specs.Prelude.{◌≡◌, OnOk, OnErr, IfOk, Some};
+ghost use Rattle.std.specs.Prelude.{◌≡◌, OnOk, OnErr, IfOk, nat_eq};
+ghost use Rattle.std.specs.List.{find};
+ghost use Rattle.mips_emit.specs.declared.facts.Fact.{Fact};
 ghost use Rattle.mips_emit.specs.Frames.{IsReachable};
-ghost use Rattle.mips_emit.specs.Locations.{known_of, known_in, facts_of, no_facts, word_in, deferred_at, deferred_const, deferred_none};
-ghost use Rattle.mips_emit.specs.Locations.{newest, with_fact, written, learned, in_slot, fresh_of};
-ghost use Rattle.mips_emit.specs.Locations.{index_register, index_of, kept_with, kept_past};
+ghost use Rattle.mips_emit.specs.Locations.{known_in, facts_of, no_facts, word_in, deferred_at, deferred_with, newest, with_fact, written};
+ghost use Rattle.mips_emit.specs.Locations.{learned, fresh_of, index_register, index_of, kept_with, locations, operand, last_operand};
+ghost use Rattle.mips_emit.specs.Locations.{FitsSource};
 ghost use Rattle.mips_emit.specs.Offsets.{sum_offset};
 ghost use Rattle.mips_emit.specs.Comparisons.{last_with};
-ghost use Rattle.mips_emit.specs.Locations.{locations, operand, last_operand, FitsSource};
 
 use crate::comparison::Comparison;
 use crate::limits::KEPT_FACTS;
-use crate::location::{Source, inner_of, locate, source_of, word_source};
-use crate::offset::{Offset, addend, index_with, pass_offset, sum_offset, touches};
+use crate::location::{Source, inner_of, locate, source_of};
+use crate::offset::{Offset, addend, index_with, sum_offset, touches};
 use mips_homes::{Frame, Home, is_callee_saved};
 use mips_isa::NonzeroReg;
 use rtl::{GlobalNumber, Op, RInst, Register};
@@ -82,24 +83,24 @@ impl Last {
     };
 }
 
-/// Returns the word that a pseudo-register is known to hold, by the last of these facts.
-fn known_of(facts: &[Fact], x: Register) -> Option<u32>
-    ensures { result ≡ known_of (newest facts.now) x }
+/// Returns the last of these facts on a pseudo-register, if it is one of the newest.
+fn last_on(facts: &[Fact], x: Register) -> Option<Fact>
+    ensures { result ≡ find (λ (f : Fact). nat_eq x f.register) (newest facts.now) }
 {
-    let forgotten = facts.len().saturating_sub(KEPT_FACTS);
-    for i in (forgotten..facts.len()).rev() {
-        if x == facts[i].register {
-            return facts[i].word;
-        }
-    }
-    None
+    facts
+        .iter()
+        .rev()
+        .take(KEPT_FACTS)
+        .copied()
+        .find(|fact| x == fact.register)
 }
 
 /// Returns the word that a pseudo-register is known to hold.
+#[tactic(auto, using(crate::proofs::Newest::known_found))]
 pub fn known_word(facts: &Knowledge, x: Register) -> Option<u32>
     ensures { result ≡ known_in (facts_of facts.now) x }
 {
-    known_of(facts.known.as_slice(), x)
+    last_on(facts.known.as_slice(), x)?.word
 }
 
 /// Returns the word that a home should hold but doesn't yet.
@@ -112,21 +113,16 @@ fn deferred_at(table: &[Option<u32>], place: &Option<Home>) -> Option<u32>
     }
 }
 
-/// Defers a constant whose home is a caller-saved register.
-fn defer(table: &mut [Option<u32>; 32], place: &Option<Home>, word: u32)
-    ensures { word_in table.new ≡ deferred_const place.now word (word_in table.old) }
+/// Defers a constant whose home is a caller-saved register; any other write cancels what was deferred there.
+fn defer(table: &mut [Option<u32>; 32], place: &Option<Home>, constant: Option<u32>)
+    ensures { word_in table.new ≡ deferred_with place.now constant (word_in table.old) }
 {
     if let Some(Home::Reg(r)) = *place {
-        table[r.index() as usize] = (!is_callee_saved(r.index())).then_some(word);
-    }
-}
-
-/// Cancels a deferred constant, as any other write does.
-fn clear_deferred(table: &mut [Option<u32>; 32], place: &Option<Home>)
-    ensures { word_in table.new ≡ deferred_none place.now (word_in table.old) }
-{
-    if let Some(Home::Reg(r)) = *place {
-        table[r.index() as usize] = None;
+        table[r.index() as usize] = if is_callee_saved(r.index()) {
+            None
+        } else {
+            constant
+        };
     }
 }
 
@@ -139,24 +135,12 @@ fn put_fact(facts: &mut Vec<Fact>, register: Register, word: Option<u32>) -> Res
     Ok(())
 }
 
-/// Forgets the base that is kept, if a home is written that its index names.
-fn pass_kept(kept: &mut Option<Kept>, place: &Option<Home>)
-    ensures { kept.new ≡ kept_past place.now kept.old }
-{
-    if let Some(Home::Reg(r) | Home::Copied(r, _)) = *place
-        && let Some(k) = *kept
-        && touches(&k.index, r)
-    {
-        *kept = None;
-    }
-}
-
 /// Returns the register of an index that is no known word.
 pub(crate) fn index_register(known: Option<u32>, x: &Source) -> Option<NonzeroReg>
     ensures { result ≡ index_register known x.now }
 {
     match *x {
-        Source::From(Home::Reg(r)) if known.is_none() => Some(r),
+        Source::InRegister(r) if known.is_none() => Some(r),
         _ => None,
     }
 }
@@ -194,40 +178,22 @@ fn sum_at(
     sum_offset(place, op, Some(word), &operand(facts, frame, a))
 }
 
-/// Learns that a register is written, and with which word; an Err means out of memory, and leaves what was known.
+/// Learns that a register is written, with which word, and with which constant; an Err means out of memory, and leaves what was known.
 #[inline(always)]
 fn learn_write(
     facts: &mut Knowledge,
     place: &Option<Home>,
     d: Register,
     word: Option<u32>,
+    constant: Option<u32>,
 ) -> Result<(), AllocError>
     ensures kept { OnErr result (facts_of facts.new ≡ facts_of facts.old) }
-    ensures is { OnOk result (facts_of facts.new ≡ written place.now d word (facts_of facts.old)) }
+    ensures is { OnOk result (facts_of facts.new ≡ written place.now d word constant (facts_of facts.old)) }
 {
     put_fact(&mut facts.known, d, word)?;
-    clear_deferred(&mut facts.deferred, place);
-    pass_kept(&mut facts.kept, place);
-    pass_offset(&mut facts.offset, place);
-    Ok(())
-}
-
-/// Learns that a register is set to a constant; an Err means out of memory, and leaves what was known.
-#[inline(always)]
-fn learn_const(
-    facts: &mut Knowledge,
-    place: &Option<Home>,
-    d: Register,
-    word: u32,
-) -> Result<(), AllocError>
-    ensures kept { OnErr result (facts_of facts.new ≡ facts_of facts.old) }
-    ensures is { let was = facts_of facts.old in
-        OnOk result (facts_of facts.new ≡ record (written place.now d (Some word) was) { deferred = deferred_const place.now word was.deferred }) }
-{
-    put_fact(&mut facts.known, d, Some(word))?;
-    defer(&mut facts.deferred, place, word);
-    pass_kept(&mut facts.kept, place);
-    pass_offset(&mut facts.offset, place);
+    defer(&mut facts.deferred, place, constant);
+    facts.kept = facts.kept.filter(|k| !touches(&k.index, place));
+    facts.offset = facts.offset.filter(|o| !touches(o, place));
     Ok(())
 }
 
@@ -239,24 +205,25 @@ pub(crate) fn learn(facts: &mut Knowledge, frame: &Frame, inst: &RInst) -> Resul
     ensures is { OnOk result (facts_of facts.new ≡ learned (locations frame.now) inst.now (facts_of facts.old)) }
 {
     match inst {
-        RInst::Const(d, word) => learn_const(facts, &locate(frame, *d), *d, *word),
+        RInst::Const(d, word) => {
+            learn_write(facts, &locate(frame, *d), *d, Some(*word), Some(*word))
+        }
         RInst::Move(d, a) => {
             let word = known_word(facts, *a);
-            learn_write(facts, &locate(frame, *d), *d, word)
+            learn_write(facts, &locate(frame, *d), *d, word, None)
         }
         RInst::Bin(op, d, a, b) => {
             let place = locate(frame, *d);
             let sum = sum_at(facts, frame, *op, &place, *a, *b);
-            learn_write(facts, &place, *d, None)?;
+            learn_write(facts, &place, *d, None, None)?;
             facts.offset = sum.or(facts.offset);
             Ok(())
         }
         RInst::Load(d, a, i) => {
             let place = locate(frame, *d);
             let kept = kept_at(facts, frame, *a, *i);
-            learn_write(facts, &place, *d, None)?;
-            facts.kept = kept;
-            pass_kept(&mut facts.kept, &place);
+            learn_write(facts, &place, *d, None, None)?;
+            facts.kept = kept.filter(|k| !touches(&k.index, &place));
             Ok(())
         }
         RInst::Store(a, i, _) => {
@@ -281,7 +248,7 @@ pub(crate) fn operand_by(
 {
     let place = locate(frame, x);
     match deferred_at(&facts.deferred, &place) {
-        Some(word) => word_source(word),
+        Some(word) => source_of(Some(word), &None),
         None => source_of(known, &place),
     }
 }
@@ -295,24 +262,17 @@ pub(crate) fn operand(facts: &Knowledge, frame: &Frame, x: Register) -> Source
     operand_by(facts, frame, x, known_word(facts, x))
 }
 
-/// Returns a pseudo-register, if it is in a slot.
-fn in_slot(place: Option<Home>, x: Register) -> Option<Register>
-    ensures { result ≡ in_slot place x }
-{
-    match place? {
-        Home::Slot(_) => Some(x),
-        _ => None,
-    }
-}
-
 /// Returns the pseudo-register whose word an instruction leaves in its inner temporary.
 pub(crate) fn fresh_of(frame: &Frame, inst: &RInst) -> Option<Register>
     requires { IsReachable frame.now }
     ensures { result ≡ fresh_of (locations frame.now) inst.now }
 {
     match inst {
-        RInst::Bin(_, d, _, _) | RInst::Load(d, _, _) => in_slot(locate(frame, *d), *d),
-        RInst::Const(_, _) | RInst::Move(_, _) | RInst::Store(_, _, _) => None,
+        RInst::Bin(_, d, _, _) | RInst::Load(d, _, _) => match locate(frame, *d)? {
+            Home::Slot(_) => Some(*d),
+            _ => None,
+        },
+        _ => None,
     }
 }
 
@@ -340,7 +300,7 @@ pub fn last_operand(
     ensures fits { FitsSource result }
 {
     match fresh {
-        Some(y) if y == x => Source::From(Home::Reg(inner_of(&locate(frame, x)))),
+        Some(y) if y == x => Source::InRegister(inner_of(&locate(frame, x))),
         _ => operand(facts, frame, x),
     }
 }

@@ -7,11 +7,10 @@ ghost use Rattle.mblock.specs.declared.limits.TheConstants.{UNIT_BYTES};
 ghost use Rattle.words.specs.Words.{wrap};
 ghost use Rattle.rtl.specs.Programs.{IsInst};
 ghost use Rattle.mips_homes.specs.declared.homed.Home.TheVariants.{Reg};
-ghost use Rattle.mips_emit.specs.Frames.{IsReachable};
-ghost use Rattle.mips_emit.specs.Locations.{facts_of, fresh_of, inner_of, learned, locations, word_source, operand, known_after, FitsPlace, FitsSource};
+ghost use Rattle.mips_emit.specs.Locations.{facts_of, fresh_of, inner_of, learned, locations, operand, known_after, FitsPlace, FitsSource};
 ghost use Rattle.mips_emit.specs.Comparisons.{FitsComparison, comparison_of, next_code, last_with, last_after, no_last, code_of_insts};
 ghost use Rattle.mips_emit.specs.Elements.{AreStarts, width_of};
-ghost use Rattle.mips_emit.specs.Code.{context_of, const_code, put_at, into, finish, op_code, holds_base, reach_with, load_code, store_code, inst_code};
+ghost use Rattle.mips_emit.specs.Code.{context_of, const_code, into, holds_base, reach_with, load_code, store_code, inst_code};
 ghost use Rattle.mips_emit.specs.Locations.{index_register};
 ghost use Rattle.mips_emit.specs.Offsets.{index_with};
 ghost use Rattle.mips_emit.specs.Prefixes.{Emits, StopsAmong, emission};
@@ -19,75 +18,33 @@ ghost use Rattle.mips_emit.specs.Prefixes.{Emits, StopsAmong, emission};
 use crate::comparison::{Asked, Comparison, comparison_of, emit_comparison};
 use crate::constant::emit_one;
 use crate::element::{
-    Reach, base_index, direct, element_load, element_store, emit_element, reach_by, same_base,
+    Element, base_index, direct, element_load, element_store, emit_element, reach_by, same_base,
 };
 use crate::facts::{
     Kept, Knowledge, Last, fresh_of, index_register, known_word, last_with, learn, operand,
     operand_by,
 };
-use crate::location::{Source, inner_of, locate, word_source};
+use crate::location::{Source, inner_of, locate, source_of};
 use crate::offset::{Offset, index_with};
-use crate::operation::{Operand, emit_after, emit_op, operand_with};
+use crate::operation::{emit_after, emit_op, operand_with};
 use crate::setting::Setting;
-use crate::transfer::{emit_bring, emit_finish, emit_put, into_of, operand_register};
+use crate::transfer::{emit_finish, emit_put, into_of, operand_register};
 use mips_homes::{Frame, Home, SCRATCH_2, is_callee_saved, register};
 use mips_isa::Plain;
-use rtl::{GlobalNumber, Op, RGlobal, RInst, Register};
+use rtl::{GlobalNumber, RGlobal, RInst};
 use std::alloc::AllocError;
 use words::Width;
-
-/// Says of an element: its width, where its global begins, and how it is reached.
-#[derive(Clone, Copy)]
-struct Element {
-    width: Width,
-    start: u32,
-    by: Reach,
-}
 
 /// Emits a word into a home, or nothing yet where that is a caller-saved register.
 fn emit_const(code: &mut Vec<Plain>, place: &Option<Home>, word: u32) -> Result<(), AllocError>
     requires { FitsPlace place.now }
     ensures { Emits result code.old.items (const_code place.now (wrap word)) code.new.items }
 {
+    let source = source_of(Some(word), &None);
     match *place {
-        Some(Home::Reg(r)) if is_callee_saved(r.index()) => emit_bring(code, r, &word_source(word)),
-        Some(Home::Reg(_)) => emit_one(code, Plain::nop()),
-        _ => emit_put(code, place, &word_source(word)),
+        Some(Home::Reg(r)) if !is_callee_saved(r.index()) => emit_one(code, Plain::nop()),
+        _ => emit_put(code, place, &source),
     }
-}
-
-/// Emits a pseudo-register into another.
-fn emit_move(
-    code: &mut Vec<Plain>,
-    facts: &Knowledge,
-    frame: &Frame,
-    d: Register,
-    a: Register,
-) -> Result<(), AllocError>
-    requires { IsReachable frame.now }
-    ensures { Emits result code.old.items
-        (put_at (locations frame.now d) (operand (locations frame.now) (facts_of facts.now) a))
-        code.new.items }
-{
-    emit_put(code, &locate(frame, d), &operand(facts, frame, a))
-}
-
-/// Emits an operator on two operands, into a home.
-fn emit_op_into(
-    code: &mut Vec<Plain>,
-    op: Op,
-    place: &Option<Home>,
-    x: &Operand,
-    y: &Operand,
-) -> Result<(), AllocError>
-    requires place { FitsPlace place.now }
-    requires left { FitsSource x.now.source }
-    requires right { FitsSource y.now.source }
-    ensures { Emits result code.old.items (op_code op (inner_of place.now) (into place.now) x.now y.now ++ finish place.now) code.new.items }
-{
-    let rd = into_of(place).reg();
-    emit_op(code, op, inner_of(place), rd, x, y)?;
-    emit_finish(code, place)
 }
 
 /// Emits an element into a home.
@@ -98,18 +55,14 @@ fn emit_load(
     place: &Option<Home>,
 ) -> Result<(), AllocError>
     requires place { FitsPlace place.now }
-    requires few { element.now.start ≤ UNIT_BYTES }
     requires fits { FitsSource x.now }
     ensures { Emits result code.old.items
         (load_code place.now element.now.width element.now.start element.now.by x.now)
         code.new.items }
 {
     let rt = into_of(place);
-    emit_element(code, element.width, element.start, &element.by, x)?;
-    emit_one(
-        code,
-        element_load(element.width, rt, element.start, &element.by),
-    )?;
+    emit_element(code, element, x)?;
+    emit_one(code, element_load(element, rt))?;
     emit_finish(code, place)
 }
 
@@ -120,7 +73,6 @@ fn emit_store(
     x: &Source,
     y: &Source,
 ) -> Result<(), AllocError>
-    requires few { element.now.start ≤ UNIT_BYTES }
     requires index { FitsSource x.now }
     requires value { FitsSource y.now }
     ensures { Emits result code.old.items
@@ -129,8 +81,8 @@ fn emit_store(
 {
     let t = register(SCRATCH_2);
     let rt = operand_register(t, y);
-    let store = element_store(element.width, rt, element.start, &element.by);
-    emit_element(code, element.width, element.start, &element.by, x)?;
+    let store = element_store(element, rt);
+    emit_element(code, element, x)?;
     emit_after(code, t, y, store, None)
 }
 
@@ -138,10 +90,9 @@ fn emit_store(
 fn width_of(globals: &[RGlobal], a: GlobalNumber) -> Width
     ensures { result ≡ width_of globals.now a }
 {
-    match globals.get(a as usize) {
-        Some(global) => global.width,
-        None => Width::Word,
-    }
+    globals
+        .get(a as usize)
+        .map_or(Width::Word, |global| global.width)
 }
 
 /// Returns where a global begins.
@@ -150,10 +101,7 @@ fn start_of(starts: &[u32], a: GlobalNumber) -> u32
     ensures start { result ≡ slice_index starts.now a }
     ensures few { result ≤ UNIT_BYTES }
 {
-    match starts.get(a as usize) {
-        Some(start) => *start,
-        None => 0,
-    }
+    starts.get(a as usize).copied().unwrap_or(0)
 }
 
 /// Says whether the base that is kept is one of a global's elements at an index.
@@ -185,7 +133,6 @@ fn element_at(
 ) -> Element
     ensures width { result.width ≡ width_of setting.now.globals.now a }
     ensures start { result.start ≡ slice_index setting.now.starts.now a }
-    ensures few { result.start ≤ UNIT_BYTES }
     ensures by { result.by ≡ reach_with setting.now.globals.now (slice_index setting.now.starts.now) (facts_of facts.now).kept a known (index_with (facts_of facts.now).offset (index_register known x.now)) }
 {
     let width = width_of(setting.globals, a);
@@ -215,11 +162,13 @@ fn emit_inst(
     let frame = setting.frame;
     match inst {
         RInst::Const(d, word) => emit_const(code, &locate(frame, *d), *word),
-        RInst::Move(d, a) => emit_move(code, facts, frame, *d, *a),
+        RInst::Move(d, a) => emit_put(code, &locate(frame, *d), &operand(facts, frame, *a)),
         RInst::Bin(op, d, a, b) => {
+            let place = locate(frame, *d);
             let x = operand_with(facts, frame, *a);
             let y = operand_with(facts, frame, *b);
-            emit_op_into(code, *op, &locate(frame, *d), &x, &y)
+            emit_op(code, *op, inner_of(&place), into_of(&place).reg(), &x, &y)?;
+            emit_finish(code, &place)
         }
         RInst::Load(d, a, i) => {
             let known = known_word(facts, *i);

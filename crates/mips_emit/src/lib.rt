@@ -17,12 +17,13 @@ mod limits;
 mod location;
 mod offset;
 mod operation;
+mod plain;
 mod product;
 mod setting;
 mod transfer;
 
 pub use comparison::{Asked, Comparison, Form, comparison_exit, returned, tested};
-pub use constant::{emit_constant, emit_load_word, emit_store_word};
+pub use constant::{emit_constant, emit_load_word, emit_move, emit_store_word};
 pub use element::Reach;
 pub use exit::{emit_arguments, emit_arrival, emit_departure};
 pub use facts::{Fact, Kept, Knowledge, Last, known_word, last_operand};

@@ -1,8 +1,8 @@
 //! Where pseudo-registers live, and what operands are.
 
-ghost use Rattle.std.specs.Prelude.{◌≡◌, None, slice_get};
+ghost use Rattle.std.specs.Prelude.{◌≡◌, slice_get};
 ghost use Rattle.mips_emit.specs.Frames.{IsReachable};
-ghost use Rattle.mips_emit.specs.Locations.{locations, inner_of, known_source, source, word_source, FitsPlace, FitsSource};
+ghost use Rattle.mips_emit.specs.Locations.{locations, inner_of, source, FitsPlace, FitsSource};
 
 use mips_homes::{Frame, Home, SCRATCH_1, SCRATCH_3, register};
 use mips_isa::NonzeroReg;
@@ -15,8 +15,10 @@ pub enum Source {
     Zero,
     /// A word that is known.
     Word(u32),
-    /// What a home holds.
-    From(Home),
+    /// What a register holds.
+    InRegister(NonzeroReg),
+    /// What a slot of the frame holds.
+    InSlot(u32),
 }
 
 /// Returns a home of a list.
@@ -46,52 +48,18 @@ pub(crate) fn inner_of(place: &Option<Home>) -> NonzeroReg
     }
 }
 
-/// Returns a word that is known, or the register that holds it besides.
-fn known_source(word: u32, place: &Option<Home>) -> Source
-    requires { FitsPlace place.now }
-    ensures value { result ≡ known_source word place.now }
-    ensures fits { FitsSource result }
-{
-    match *place {
-        Some(Home::Reg(r) | Home::Copied(r, _)) => Source::From(Home::Reg(r)),
-        None | Some(Home::Slot(_)) => Source::Word(word),
-    }
-}
-
-/// Returns what an operand is of which no word is known.
-fn unknown_source(place: &Option<Home>) -> Source
-    requires { FitsPlace place.now }
-    ensures value { result ≡ source None place.now }
-    ensures fits { FitsSource result }
-{
-    match *place {
-        None => Source::Zero,
-        Some(Home::Slot(k)) => Source::From(Home::Slot(k)),
-        Some(Home::Reg(r) | Home::Copied(r, _)) => Source::From(Home::Reg(r)),
-    }
-}
-
 /// Returns what an operand is, from the word that it is known to hold and where it is.
 pub(crate) fn source_of(known: Option<u32>, place: &Option<Home>) -> Source
     requires { FitsPlace place.now }
     ensures value { result ≡ source known place.now }
     ensures fits { FitsSource result }
 {
-    match known {
-        None => unknown_source(place),
-        Some(0) => Source::Zero,
-        Some(word) => known_source(word, place),
+    if matches!(known, Some(0)) {
+        return Source::Zero;
     }
-}
-
-/// Returns a word as an operand.
-pub(crate) fn word_source(word: u32) -> Source
-    ensures value { result ≡ word_source word }
-    ensures fits { FitsSource result }
-{
-    if word == 0 {
-        Source::Zero
-    } else {
-        Source::Word(word)
+    match *place {
+        None => known.map_or(Source::Zero, Source::Word),
+        Some(Home::Reg(r) | Home::Copied(r, _)) => Source::InRegister(r),
+        Some(Home::Slot(k)) => known.map_or(Source::InSlot(k), Source::Word),
     }
 }

@@ -2,34 +2,26 @@
 
 #![tactic(auto, using(crate::proofs::Prefixes::prefix_behind, crate::proofs::Prefixes::prefix_among, crate::proofs::Prefixes::emits_behind))]
 
-ghost use Rattle.std.specs.Prelude.{◌≡◌, ℕ, ◌%◌, ◌++◌, ◌∷◌, [], true, nat_lt, take, drop, if◌then◌else◌, Some, None};
-ghost use Rattle.mips_isa.specs.declared.inst.LogicOp.TheVariants.{Xori};
-ghost use Rattle.rtl.specs.declared.operator.Op.TheVariants.{Xor};
-ghost use Rattle.mips_isa.specs.declared.inst.Plain.TheVariants.{Shift, ShiftBy, Alu, Imm, Logic, Divide};
+ghost use Rattle.std.specs.Prelude.{◌≡◌, ℕ, ◌++◌, ◌∷◌, [], nat_lt, take, drop, if◌then◌else◌, Some, None};
+ghost use Rattle.std.specs.Option.{option_to_list};
+ghost use Rattle.mips_isa.specs.declared.inst.Plain.TheVariants.{ShiftBy, Imm, Logic, Divide};
 ghost use Rattle.mips_emit.specs.Frames.{IsReachable};
 ghost use Rattle.mips_emit.specs.Locations.{FitsSource, facts_of, locations};
-ghost use Rattle.mips_emit.specs.Code.{is_small, half, fetch, one_or_two, as_list, operation, is_power, immediate, immediate_of, is_symmetric};
-ghost use Rattle.mips_emit.specs.Code.{turned_immediate_of, turned_less_of, code_by_less, code_by_right, code_by_word};
-ghost use Rattle.mips_emit.specs.Code.{operand_with, op_code};
+ghost use Rattle.mips_emit.specs.Code.{is_small, half, fetch, one_or_two, operation, is_power, immediate, immediate_of, is_symmetric};
+ghost use Rattle.mips_emit.specs.Code.{turned_immediate_of, turned_less_of, code_by_word, operand_with, op_code};
 ghost use Rattle.mips_emit.specs.Prefixes.{Emits};
 
-use crate::constant::{emit_one_or_two, half, is_small};
+use crate::constant::emit_one_or_two;
 use crate::facts::{Knowledge, known_word, operand_by};
 use crate::location::Source;
+use crate::plain::{alu, imm, is_small, logic, shift};
 use crate::product::{emit_multiple, multiple_of};
 use crate::transfer::{emit_fetch, operand_register};
 use mips_homes::{Frame, SCRATCH_2, register};
-use mips_isa::{AluOp, Amount, HiLo, ImmOp, LogicOp, NonzeroReg, Plain, Reg, ShiftOp};
+use mips_isa::{AluOp, HiLo, ImmOp, LogicOp, NonzeroReg, Plain, Reg, ShiftOp};
 use rtl::{Op, Register};
 use std::alloc::AllocError;
 use words::Sign;
-
-/// Returns an instruction on two registers.
-fn alu(op: AluOp, rd: Reg, rs: Reg, rt: Reg) -> Plain
-    ensures { result ≡ Alu op rd rs rt }
-{
-    Plain::Alu { op, rd, rs, rt }
-}
 
 /// Returns a shift by a register.
 fn shift_by(op: ShiftOp, rd: Reg, rt: Reg, rs: Reg) -> Plain
@@ -38,32 +30,7 @@ fn shift_by(op: ShiftOp, rd: Reg, rt: Reg, rs: Reg) -> Plain
     Plain::ShiftBy { op, rd, rt, rs }
 }
 
-/// Returns a shift by a known amount.
-fn shift(op: ShiftOp, rd: Reg, rt: Reg, word: u32) -> Plain
-    ensures { result ≡ Shift op rd rt (word % 32) }
-{
-    Plain::Shift {
-        op,
-        rd,
-        rt,
-        amount: Amount::masked((word % 32) as u8),
-    }
-}
-
-/// Returns an instruction with a word that fits its 16 bits, signed.
-fn imm(op: ImmOp, rt: Reg, rs: Reg, word: u32) -> Plain
-    requires { is_small word ≡ true }
-    ensures { result ≡ Imm op rt rs (half word) }
-{
-    Plain::Imm {
-        op,
-        rt,
-        rs,
-        imm: half(word),
-    }
-}
-
-/// Returns the same for a word that is small, else none.
+/// Returns an instruction with a word that fits its 16 bits, signed, else none.
 fn if_small(op: ImmOp, rt: Reg, rs: Reg, word: u32) -> Option<Plain>
     ensures { result ≡ (if is_small word then Some (Imm op rt rs (half word)) else None) }
 {
@@ -79,12 +46,7 @@ fn if_half(op: LogicOp, rt: Reg, rs: Reg, word: u32) -> Option<Plain>
     ensures { result ≡ (if nat_lt word 65536 then Some (Logic op rt rs word) else None) }
 {
     if word < 65_536 {
-        Some(Plain::Logic {
-            op,
-            rt,
-            rs,
-            imm: word as u16,
-        })
+        Some(logic(op, rt, rs, word as u16))
     } else {
         None
     }
@@ -95,18 +57,6 @@ fn division(sign: Sign, rs: Reg, rt: Reg) -> Plain
     ensures { result ≡ Divide sign rs rt }
 {
     Plain::Divide { sign, rs, rt }
-}
-
-/// Returns the opposite of a truth value: 1 where it was 0.
-fn opposite_truth(rd: Reg) -> Plain
-    ensures { result ≡ Logic Xori rd rd 1 }
-{
-    Plain::Logic {
-        op: LogicOp::Xori,
-        rt: rd,
-        rs: rd,
-        imm: 1,
-    }
 }
 
 /// Returns the first instruction of an operator on two registers.
@@ -139,7 +89,7 @@ fn first_of(op: Op, rd: Reg, rs: Reg, rt: Reg) -> Plain
 /// Returns the second instruction, where the operator takes two. It gives the result of a product or division, or a test of order turned,
 /// or a test of equality by the difference.
 fn second_of(op: Op, rd: Reg) -> Option<Plain>
-    ensures { (a b : ℕ) → drop 1 (operation op rd a b) ≡ as_list result }
+    ensures { (a b : ℕ) → drop 1 (operation op rd a b) ≡ option_to_list result }
 {
     match op {
         Op::Mul | Op::DivS | Op::DivU => Some(Plain::MoveFrom {
@@ -152,7 +102,7 @@ fn second_of(op: Op, rd: Reg) -> Option<Plain>
         }),
         Op::Eq => Some(imm(ImmOp::Sltiu, rd, rd, 1)),
         Op::Ne => Some(alu(AluOp::Sltu, rd, Reg::ZERO, rd)),
-        Op::LeS | Op::LeU => Some(opposite_truth(rd)),
+        Op::LeS | Op::LeU => Some(logic(LogicOp::Xori, rd, rd, 1)),
         _ => None,
     }
 }
@@ -267,51 +217,8 @@ pub(crate) fn emit_after(
     emit_one_or_two(code, first, second)
 }
 
-/// Emits an operator on two registers, after the operands that they fetch.
-fn emit_both(
-    code: &mut Vec<Plain>,
-    op: Op,
-    inner: NonzeroReg,
-    rd: Reg,
-    x: &Source,
-    y: &Source,
-) -> Result<(), AllocError>
-    requires left { FitsSource x.now }
-    requires right { FitsSource y.now }
-    ensures { Emits result code.old.items (code_by_less op inner rd None x.now y.now) code.new.items }
-{
-    let t = register(SCRATCH_2);
-    let rs = operand_register(inner, x);
-    let rt = operand_register(t, y);
-    emit_fetch(code, inner, x)?;
-    emit_after(code, t, y, first_of(op, rd, rs, rt), second_of(op, rd))
-}
-
-/// Emits an operator by a word on its left, or on the left of a test that is then turned, if it can be.
-fn emit_by_left(
-    code: &mut Vec<Plain>,
-    op: Op,
-    inner: NonzeroReg,
-    rd: Reg,
-    x: &Operand,
-    y: &Operand,
-) -> Result<(), AllocError>
-    requires left { FitsSource x.now.source }
-    requires right { FitsSource y.now.source }
-    ensures { Emits result code.old.items (code_by_right op inner rd None x.now y.now) code.new.items }
-{
-    let t = register(SCRATCH_2);
-    let rt = operand_register(t, &y.source);
-    if let Some(first) = turned_immediate_of(op, rd, rt, x.known) {
-        return emit_after(code, t, &y.source, first, None);
-    }
-    match turned_less_of(op, rd, rt, x.known) {
-        Some(first) => emit_after(code, t, &y.source, first, Some(opposite_truth(rd))),
-        None => emit_both(code, op, inner, rd, &x.source, &y.source),
-    }
-}
-
-/// Emits an operator by a word on its right if it can be, else by one on its left or on two registers.
+/// Emits an operator by a word on its right if it can be, else by one on its left, or on the left of a test that is then turned, else on
+/// two registers.
 fn emit_by_word(
     code: &mut Vec<Plain>,
     op: Op,
@@ -324,11 +231,27 @@ fn emit_by_word(
     requires right { FitsSource y.now.source }
     ensures { Emits result code.old.items (code_by_word op inner rd x.now y.now) code.new.items }
 {
+    let t = register(SCRATCH_2);
     let rs = operand_register(inner, &x.source);
-    match immediate_of(op, rd, rs, y.known) {
-        Some(first) => emit_after(code, inner, &x.source, first, None),
-        None => emit_by_left(code, op, inner, rd, x, y),
+    let rt = operand_register(t, &y.source);
+    if let Some(first) = immediate_of(op, rd, rs, y.known) {
+        return emit_after(code, inner, &x.source, first, None);
     }
+    if let Some(first) = turned_immediate_of(op, rd, rt, x.known) {
+        return emit_after(code, t, &y.source, first, None);
+    }
+    if let Some(first) = turned_less_of(op, rd, rt, x.known) {
+        let second = logic(LogicOp::Xori, rd, rd, 1);
+        return emit_after(code, t, &y.source, first, Some(second));
+    }
+    emit_fetch(code, inner, &x.source)?;
+    emit_after(
+        code,
+        t,
+        &y.source,
+        first_of(op, rd, rs, rt),
+        second_of(op, rd),
+    )
 }
 
 /// Emits an operator into a register, the left operand by way of the inner temporary; an Err means out of memory.

@@ -2,17 +2,18 @@
 
 #![tactic(auto, using(crate::proofs::Prefixes::prefix_behind, crate::proofs::Prefixes::prefix_among, crate::proofs::Prefixes::emits_behind))]
 
-ghost use Rattle.std.specs.Prelude.{◌≡◌, ◌%◌};
+ghost use Rattle.std.specs.Prelude.{◌≡◌};
 ghost use Rattle.mips_emit.specs.Locations.{FitsSource};
-ghost use Rattle.mips_emit.specs.Code.{multiple, multiple_of, multiple_code, exponent};
+ghost use Rattle.mips_emit.specs.Code.{multiple, multiple_of, multiple_code};
 ghost use Rattle.mips_emit.specs.Prefixes.{Emits};
 
 use crate::constant::emit_one_or_two;
 use crate::location::Source;
 use crate::operation::is_power;
+use crate::plain::{alu, shift};
 use crate::transfer::{emit_fetch, operand_register};
 use mips_homes::SCRATCH_2;
-use mips_isa::{AluOp, Amount, NonzeroReg, Plain, Reg, ShiftOp};
+use mips_isa::{AluOp, NonzeroReg, Plain, Reg, ShiftOp};
 use rtl::Op;
 use std::alloc::AllocError;
 
@@ -20,14 +21,7 @@ use std::alloc::AllocError;
 #[derive(Clone, Copy)]
 pub(crate) struct ShiftedSum {
     pub(crate) op: AluOp,
-    pub(crate) amount: Amount,
-}
-
-/// Returns the exponent of a power of 2.
-fn exponent(word: u32) -> Amount
-    ensures { result ≡ exponent word % 32 }
-{
-    Amount::masked((word.trailing_zeros() % 32) as u8)
+    pub(crate) amount: u32,
 }
 
 /// Returns a product by this word, where one more or one less is a power of 2 and the word itself isn't.
@@ -41,12 +35,12 @@ fn multiple(word: u32) -> Option<ShiftedSum>
     } else if is_power(below) {
         Some(ShiftedSum {
             op: AluOp::Addu,
-            amount: exponent(below),
+            amount: below.trailing_zeros(),
         })
     } else if is_power(above) {
         Some(ShiftedSum {
             op: AluOp::Subu,
-            amount: exponent(above),
+            amount: above.trailing_zeros(),
         })
     } else {
         None
@@ -77,17 +71,6 @@ pub(crate) fn emit_multiple(
     let shifted = Reg::masked(SCRATCH_2);
     let operand = operand_register(inner, x);
     emit_fetch(code, inner, x)?;
-    let shift = Plain::Shift {
-        op: ShiftOp::Sll,
-        rd: shifted,
-        rt: operand,
-        amount: m.amount,
-    };
-    let sum = Plain::Alu {
-        op: m.op,
-        rd,
-        rs: shifted,
-        rt: operand,
-    };
-    emit_one_or_two(code, shift, Some(sum))
+    let shift = shift(ShiftOp::Sll, shifted, operand, m.amount);
+    emit_one_or_two(code, shift, Some(alu(m.op, rd, shifted, operand)))
 }

@@ -4,7 +4,7 @@
 
 ghost use Rattle.std.specs.Prelude.{◌≡◌};
 ghost use Rattle.mips_emit.specs.Locations.{FitsPlace, FitsSource};
-ghost use Rattle.mips_emit.specs.Code.{fetch, operand_register, bring, carry, into, finish, put_at, arrive};
+ghost use Rattle.mips_emit.specs.Code.{fetch, operand_register, bring, carry, into, finish, put_at};
 ghost use Rattle.mips_emit.specs.Prefixes.{Emits};
 
 use crate::constant::{emit_li, emit_load_word, emit_move, emit_store_word};
@@ -20,8 +20,8 @@ pub fn emit_fetch(code: &mut Vec<Plain>, t: NonzeroReg, x: &Source) -> Result<()
 {
     match *x {
         Source::Word(word) => emit_li(code, t.reg(), word),
-        Source::From(Home::Slot(k)) => emit_load_word(code, t, 4 * k),
-        Source::Zero | Source::From(_) => Ok(()),
+        Source::InSlot(k) => emit_load_word(code, t, 4 * k),
+        Source::Zero | Source::InRegister(_) => Ok(()),
     }
 }
 
@@ -31,8 +31,8 @@ pub fn operand_register(t: NonzeroReg, x: &Source) -> Reg
 {
     match *x {
         Source::Zero => Reg::ZERO,
-        Source::Word(_) | Source::From(Home::Slot(_)) => t.reg(),
-        Source::From(Home::Reg(r) | Home::Copied(r, _)) => r.reg(),
+        Source::Word(_) | Source::InSlot(_) => t.reg(),
+        Source::InRegister(r) => r.reg(),
     }
 }
 
@@ -43,9 +43,8 @@ pub(crate) fn emit_bring(code: &mut Vec<Plain>, t: NonzeroReg, x: &Source) -> Re
 {
     match *x {
         Source::Zero => emit_move(code, t.reg(), Reg::ZERO),
-        Source::Word(word) => emit_li(code, t.reg(), word),
-        Source::From(Home::Slot(k)) => emit_load_word(code, t, 4 * k),
-        Source::From(Home::Reg(r) | Home::Copied(r, _)) => emit_move(code, t.reg(), r.reg()),
+        Source::InRegister(r) => emit_move(code, t.reg(), r.reg()),
+        Source::Word(_) | Source::InSlot(_) => emit_fetch(code, t, x),
     }
 }
 
@@ -55,7 +54,7 @@ pub(crate) fn emit_carry(code: &mut Vec<Plain>, t: NonzeroReg, x: &Source) -> Re
     ensures { Emits result code.old.items (carry t x.now) code.new.items }
 {
     match *x {
-        Source::From(Home::Reg(r) | Home::Copied(r, _)) if r == t => Ok(()),
+        Source::InRegister(r) if r == t => Ok(()),
         _ => emit_bring(code, t, x),
     }
 }
@@ -103,26 +102,6 @@ pub(crate) fn emit_put(
         }
         Some(Home::Copied(r, k)) => {
             emit_bring(code, r, x)?;
-            emit_store_word(code, r.reg(), 4 * k)
-        }
-    }
-}
-
-/// Emits a register into a home, but where it is that register; an Err means out of memory.
-pub(crate) fn emit_arrive(
-    code: &mut Vec<Plain>,
-    place: &Option<Home>,
-    t: NonzeroReg,
-) -> Result<(), AllocError>
-    requires { FitsPlace place.now }
-    ensures { Emits result code.old.items (arrive place.now t) code.new.items }
-{
-    match *place {
-        None => Ok(()),
-        Some(Home::Reg(r)) => emit_carry(code, r, &Source::From(Home::Reg(t))),
-        Some(Home::Slot(k)) => emit_store_word(code, t.reg(), 4 * k),
-        Some(Home::Copied(r, k)) => {
-            emit_carry(code, r, &Source::From(Home::Reg(t)))?;
             emit_store_word(code, r.reg(), 4 * k)
         }
     }

@@ -1,25 +1,25 @@
 -- At most how many machine instructions stand for an instruction, an exit and the beginning of a function.
-use Rattle.std.proofs.Common.{◌≡◌, ℕ, zero, suc, ◌+◌, ◌*◌, ◌≤◌, Bool, true, false, List, [], ◌∷◌, length, length-append, Option, arith, refl}
+use Rattle.std.proofs.Common.{◌≡◌, ℕ, zero, suc, ◌+◌, ◌*◌, ◌≤◌, Bool, true, false, List, [], ◌∷◌, ◌++◌, length, length-append, Option, arith, refl}
 use Rattle.std.specs.Prelude.{slice_get}
 use Rattle.words.specs.declared.width.Width.{Width}
 use Rattle.mips_isa.specs.declared.inst.Plain.{Plain}
 use Rattle.rtl.specs.declared.operator.Op.{Op}
 use Rattle.rtl.specs.declared.instruction.RInst.{RInst}
+use Rattle.rtl.specs.declared.instruction.RInst.TheVariants.{Bin}
 use Rattle.rtl.specs.declared.instruction.RExit.{RExit}
 use Rattle.rtl.specs.declared.instruction.RExit.TheVariants.{Call}
 use Rattle.rtl.specs.declared.block.RGlobal.{RGlobal}
 use Rattle.mips_homes.specs.declared.homed.Home.{Home}
 use Rattle.mips_homes.specs.declared.homed.Frame.{Frame}
-use Rattle.mips_homes.specs.declared.homed.Home.TheVariants.{Reg}
 use Rattle.mips_emit.specs.Frames.{HaveNoCopies, link_words}
 use Rattle.mips_emit.specs.declared.location.Source.{Source}
-use Rattle.mips_emit.specs.declared.location.Source.TheVariants.{From}
+use Rattle.mips_emit.specs.declared.location.Source.TheVariants.{InRegister}
 use Rattle.mips_emit.specs.declared.comparison.Asked.{Asked}
 use Rattle.mips_emit.specs.declared.comparison.Comparison.{Comparison}
 use Rattle.mips_emit.specs.declared.facts.Last.{Last}
-use Rattle.mips_emit.specs.Locations.{Locations, Facts, locations, learned, operand}
+use Rattle.mips_emit.specs.Locations.{Locations, Facts, inner_of, locations, learned, operand}
 use Rattle.mips_emit.specs.declared.element.Reach.{Reach}
-use Rattle.mips_emit.specs.Code.{fetch, bring, carry, put_at, arrive, Context, op_code, element_code, inst_code, arguments_code}
+use Rattle.mips_emit.specs.Code.{fetch, bring, carry, into, finish, put_at, arrive, operand_with, Context, op_code, element_code, inst_code, arguments_code}
 use Rattle.mips_emit.specs.declared.operation.Operand.{Operand}
 use Rattle.mips_emit.specs.Comparisons.{next_code, insts_code}
 use Rattle.mips_select.specs.declared.prologue.Direction.{Direction}
@@ -37,7 +37,7 @@ carry_few t x = grind (arith, source_few t x)
 put_few : (o : Option Home) (x : Source) → length (put_at o x) ≤ 8
 put_few o x = grind (arith, length-append {A = Plain}, source_few)
 
-moved_few : (r t : ℕ) → length (carry r (From (Reg t))) ≤ 1
+moved_few : (r t : ℕ) → length (carry r (InRegister t)) ≤ 1
 moved_few r t = grind arith
 
 -- two, of which the second is the store of a copy
@@ -58,8 +58,13 @@ op_few op t d x y = grind (arith, length-append {A = Plain}, source_few)
 element_few : (w : Width) (start : ℕ) (by : Reach) (x : Source) → length (element_code w start by x) ≤ 5
 element_few w start by x = grind (arith, length-append {A = Plain}, source_few)
 
+finished : (code : List Plain) (o : Option Home) → length code ≤ 6 → length (code ++ finish o) ≤ 8
+finished code o few = grind (arith, length-append {A = Plain})
+
 inst_few : (globals : List RGlobal) (starts : ℕ → ℕ) (at : Locations) (facts : Facts) (i : RInst) → length (inst_code globals starts at facts i) ≤ 8
-inst_few globals starts at facts i = grind (arith, length-append {A = Plain}, put_few, op_few, element_few, source_few)
+inst_few globals starts at facts (Bin op d a b) =
+    finished (op_code op (inner_of (at d)) (into (at d)) (operand_with at facts a) (operand_with at facts b)) (at d) (op_few op _ _ _ _)
+inst_few globals starts at facts _ = grind (arith, length-append {A = Plain}, put_few, element_few, source_few)
 
 next_few : (c : Context) (facts : Facts) (o : Option Comparison) (i : RInst) → length (next_code c facts o i) ≤ 8
 next_few c facts o i = grind (arith, length-append {A = Plain}, inst_few, op_few, source_few)
