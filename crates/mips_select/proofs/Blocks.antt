@@ -1,19 +1,17 @@
 -- Blocks, their code and their pieces that are being made.
 use Rattle.std.proofs.Common.{◌≡◌, ℕ, ◌+◌, ◌<◌, List, [], ◌∷◌, ◌++◌, drop, get_or, length, length-append, sym, ap, ◌∙◌, arith, zero, suc, ◌-◌}
 use Rattle.std.proofs.Common.{◌/◌, take}
-use Rattle.std.proofs.lemmas.List.{append_assoc, at_drop_more, length-map, get_or-map, append-nil}
+use Rattle.std.proofs.lemmas.List.{append_assoc, length-map, get_or-map, append-nil}
 use Rattle.std.specs.declared.alloc.Global.{Global}
 use Rattle.std.specs.declared.vec.Vec.{Vec}
 use Rattle.mblock.specs.Parts.{BlockParts}
 use Rattle.rtl.specs.declared.block.RFunc.{RFunc}
-use Rattle.rtl.specs.declared.block.RBlock.{RBlock}
 use Rattle.mips_homes.specs.declared.homed.Frame.{Frame}
 use Rattle.mips_select.specs.declared.heads.Naming.{Naming}
-use Rattle.mips_select.specs.declared.heads.Naming.TheVariants.{Unnamed}
-use Rattle.mips_select.specs.Heads.{unnamed, namings_of, AreNamed, count}
+use Rattle.mips_select.specs.Heads.{namings_of, AreNamed, count}
 use Rattle.mips_select.specs.Plans.{Linking}
 use Rattle.mips_select.specs.Whole.{function_blocks, function_size, functions_size, functions_blocks}
-use Rattle.mips_select.proofs.Places.{block_there, length-pieces}
+use Rattle.mips_select.proofs.Places.{length-pieces}
 use Rattle.mips_select.proofs.Lists.{drop_item, made_more}
 use Rattle.mips_select.proofs.Linked.{function_length}
 use Rattle.mips_emit.specs.Locations.{Locations}
@@ -23,12 +21,6 @@ use Rattle.mips_isa.specs.declared.inst.Plain.{Plain}
 use Rattle.mblock.specs.declared.exit.Exit.{Exit}
 use Rattle.mblock.specs.declared.exit.Exit.TheVariants.{Goto}
 use Rattle.mips_select.specs.Split.{renumbered_exit, more_pieces, piece, pieces, count_of, total, split_from}
-
--- one more block that nothing names
-pub unnamed_more : (blocks : List RBlock) (i : ℕ) (table : List Naming) {table' all : List Naming} → i < length blocks → table' ≡ table ++ Unnamed ∷ []
-    → table ++ unnamed (drop i blocks) ≡ all → table' ++ unnamed (drop (i + 1) blocks) ≡ all
-unnamed_more blocks i table within e before =
-    cc (append_assoc table (Unnamed ∷ []) (unnamed (drop (i + 1) blocks)), at_drop_more unnamed blocks i (block_there blocks i within).0 within)
 
 -- there is a table for each function
 pub named_long : (tables : List (Vec Naming Global)) (funcs : List RFunc) → AreNamed tables funcs → length tables ≡ length funcs

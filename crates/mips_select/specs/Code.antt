@@ -1,7 +1,6 @@
 -- The machine code of functions: what stands before and after the code of their instructions, and how blocks are left.
 use Rattle.std.specs.Prelude.{ℕ, ℤ, pos, negsuc, zero, suc, ◌+◌, ◌-◌, ◌*◌, Bool, true, false, nat_eq, if◌then◌else◌, List, [], ◌∷◌, ◌++◌}
-use Rattle.std.specs.Prelude.{Option, Some}
-use Rattle.std.specs.Prelude.{None, length}
+use Rattle.std.specs.Prelude.{Option, Some, None, length}
 use Rattle.mips_isa.specs.declared.inst.ImmOp.TheVariants.{Addiu}
 use Rattle.mips_isa.specs.declared.inst.Plain.{Plain}
 use Rattle.mips_isa.specs.declared.inst.Plain.TheVariants.{Imm}

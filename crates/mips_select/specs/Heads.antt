@@ -1,6 +1,6 @@
 -- What blocks begin with, from how the exits of their function name them.
 use Rattle.std.specs.Prelude.{◌≡◌, ℕ, Bool, false, List, [], ◌∷◌, map, Option, Some, nat_eq, if◌then◌else◌, slice_get}
-use Rattle.std.specs.Prelude.{slice_set, not}
+use Rattle.std.specs.Prelude.{slice_set, not, length, replicate}
 use Rattle.std.specs.Option.{is_some}
 use Rattle.std.specs.declared.alloc.Global.{Global}
 use Rattle.std.specs.declared.vec.Vec.{Vec}
@@ -31,8 +31,7 @@ namings [] l = l
 namings (b ∷ bs) l = namings bs (note b.exit l)
 
 abbrev pub unnamed : List RBlock → List Naming
-unnamed [] = []
-unnamed (b ∷ bs) = Unnamed ∷ unnamed bs
+unnamed bs = replicate (length bs) Unnamed
 
 -- how the exits of a function name its blocks
 abbrev pub namings_of : RFunc → List Naming

@@ -1,11 +1,11 @@
 //! The blocks for the blocks of a function.
 
-ghost use Rattle.std.specs.Prelude.{◌≡◌, ◌+◌, ◌≤◌, ◌++◌, [], length, IfOk, OnOk, slice_index};
+ghost use Rattle.std.specs.Prelude.{◌≡◌, ◌+◌, ◌≤◌, ◌++◌, [], length, IfOk, OnOk};
 ghost use Rattle.mblock.specs.declared.limits.TheConstants.{UNIT_BLOCKS};
 ghost use Rattle.mips_emit.specs.Frames.{IsReachable};
 ghost use Rattle.mips_emit.specs.Locations.{locations};
 ghost use Rattle.mips_select.specs.Heads.{heads_in, count};
-ghost use Rattle.mips_select.specs.Code.{result_code, head_code, own_block, after_block};
+ghost use Rattle.mips_select.specs.Code.{result_code, head_code, own_block};
 ghost use Rattle.mips_select.specs.Emittable.{IsEmittable};
 ghost use Rattle.mips_select.specs.Plans.{linking_of, planning_of};
 ghost use Rattle.mips_select.specs.Whole.{behind, blocks_for};
@@ -107,23 +107,6 @@ fn block_for(
     Ok(LongBlock::new(insts, exit))
 }
 
-/// Makes the block at which a call goes on.
-fn block_after(
-    alloc: Global,
-    places: &[BlockNumber],
-    frame: &Frame,
-    to: Option<Register>,
-    next: u32,
-) -> Result<LongBlock, AllocError>
-    requires { IsReachable frame.now }
-    ensures { IfOk result (λ b. b ≡ after_block frame.now to (slice_index places.now next)) }
-{
-    let mut insts = Vec::new(alloc);
-    emit_result(&mut insts, frame, to)?;
-    let exit = Exit::Goto(number_at(places, next));
-    Ok(LongBlock::new(insts, exit))
-}
-
 /// Emits the block after a call, if there is one.
 fn emit_behind(
     alloc: Global,
@@ -135,8 +118,10 @@ fn emit_behind(
 {
     match exit {
         RExit::Call(_, _, to, next) if !resumes(*to, head_at(plan.table, *next as usize)) => {
-            let second = block_after(alloc, plan.places, plan.frame, *to, *next)?;
-            push(out, second)
+            let mut insts = Vec::new(alloc);
+            emit_result(&mut insts, plan.frame, *to)?;
+            let exit = Exit::Goto(number_at(plan.places, *next));
+            push(out, LongBlock::new(insts, exit))
         }
         _ => Ok(()),
     }

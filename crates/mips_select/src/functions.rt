@@ -18,9 +18,9 @@ use crate::plan::{Emitter, Linkage, Plan};
 use crate::prologue::emit_prologue;
 use crate::push::push;
 use mblock::{BlockNumber, Exit};
-use mips_emit::emit_constant;
+use mips_emit::{emit_constant, emit_move};
 use mips_homes::{Frame, GLOBAL_POINTER, is_leaf};
-use mips_isa::{AluOp, DATA_BASE, Plain, Reg};
+use mips_isa::{DATA_BASE, Reg};
 use rtl::{RBlock, RFunc};
 use std::alloc::{AllocError, Global};
 
@@ -149,12 +149,6 @@ pub(crate) fn emit_end(alloc: Global, out: &mut Vec<LongBlock>) -> Result<(), Al
     ensures { OnOk result (out.new.items ≡ out.old.items ++ end_block ∷ []) }
 {
     let mut insts = Vec::new(alloc);
-    let inst = Plain::Alu {
-        op: AluOp::Addu,
-        rd: Reg::ARGUMENT,
-        rs: Reg::RESULT,
-        rt: Reg::ZERO,
-    };
-    push(&mut insts, inst)?;
+    emit_move(&mut insts, Reg::ARGUMENT, Reg::RESULT)?;
     push(out, LongBlock::new(insts, Exit::Halt))
 }

@@ -1,6 +1,6 @@
 //! What blocks begin with, from how the exits of their function name them.
 
-ghost use Rattle.std.specs.Prelude.{◌≡◌, ◌≤◌, IfOk, slice_set, slice_get};
+ghost use Rattle.std.specs.Prelude.{◌≡◌, ◌≤◌, IfOk, slice_set};
 ghost use Rattle.mips_select.specs.Heads.{naming_with_call, note, namings, unnamed, head_at, heads_in, resumes, count, lead_in};
 
 use rtl::{RBlock, RExit, Register};
@@ -38,13 +38,6 @@ fn naming_with_call(d: Option<Register>, before: Option<Naming>) -> Naming
     }
 }
 
-/// Returns how a block was named.
-fn naming_at(table: &[Naming], b: usize) -> Option<Naming>
-    ensures { result ≡ slice_get table.now b }
-{
-    table.get(b).copied()
-}
-
 /// Marks the block in the table, if there is such a block.
 fn mark(table: &mut Vec<Naming>, b: u32, s: Naming)
     ensures { table.new.items ≡ slice_set table.old.items b s }
@@ -66,29 +59,18 @@ fn note_exit(table: &mut Vec<Naming>, exit: &RExit)
         }
         RExit::Out(_, next) => mark(table, *next, Naming::Jumped),
         RExit::Call(_, _, d, next) => {
-            let s = naming_with_call(*d, naming_at(table.as_slice(), *next as usize));
+            let s = naming_with_call(*d, table.get(*next as usize).copied());
             mark(table, *next, s);
         }
         RExit::Return(_) => {}
     }
 }
 
-/// Makes a table in which no block is named.
-fn none_named(alloc: Global, blocks: &[RBlock]) -> Result<Vec<Naming>, AllocError>
-    ensures { IfOk result (λ t. t.items ≡ unnamed blocks.now) }
-{
-    let mut table = Vec::with_capacity(alloc, blocks.len())?;
-    for _b in blocks {
-        table.push(Naming::Unnamed)?;
-    }
-    Ok(table)
-}
-
 /// Finds how the exits of a function name its blocks.
 pub(crate) fn all_namings(alloc: Global, blocks: &[RBlock]) -> Result<Vec<Naming>, AllocError>
     ensures { IfOk result (λ t. t.items ≡ namings blocks.now (unnamed blocks.now)) }
 {
-    let mut table = none_named(alloc, blocks)?;
+    let mut table = vec![in alloc; Naming::Unnamed; blocks.len()]?;
     for b in blocks {
         note_exit(&mut table, &b.exit);
     }
@@ -99,7 +81,7 @@ pub(crate) fn all_namings(alloc: Global, blocks: &[RBlock]) -> Result<Vec<Naming
 pub(crate) fn head_at(table: &[Naming], b: usize) -> Head
     ensures { result ≡ heads_in table.now b }
 {
-    match naming_at(table, b) {
+    match table.get(b).copied() {
         Some(Naming::Unnamed) if b == 0 => Head::Enters,
         Some(Naming::Called(Some(d))) if b != 0 => Head::Takes(d),
         _ => Head::Bare,

@@ -28,14 +28,12 @@ mod plan;
 mod program;
 mod prologue;
 mod push;
-mod split_laws;
 
 pub use fault::SelectFault;
-pub use laws::{each_unit_is_counted, each_unit_keeps_runs, limits_are_these_numbers};
+pub use laws::{
+    each_list_of_functions_is_owned, each_split_unit_comes_to, each_split_unit_is_well,
+    each_split_unit_runs, each_unit_is_counted, each_unit_keeps_runs, limits_are_these_numbers,
+};
 pub use limits::STACK_BYTES;
 pub use numbering::{Numbered, select_numbered};
 pub use program::select;
-pub use split_laws::{
-    each_list_of_functions_is_owned, each_split_unit_comes_to, each_split_unit_is_well,
-    each_split_unit_runs,
-};

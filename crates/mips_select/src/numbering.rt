@@ -46,7 +46,7 @@ fn block_numbers(
     long: &LongUnit,
     functions: &[RFunc],
 ) -> Result<Vec<BlockNumber>, SelectFault>
-    requires named { AreNamed long.now.namings.items functions.now }
+    requires named { AreNamed long.now.numbers.namings.items functions.now }
     requires small { (g : ℕ) (func : RFunc) → slice_get functions.now g ≡ Some func → length func.blocks.items ≤ MAX_BLOCKS }
     requires number { 2 + functions_size functions.now ≤ UNIT_BLOCKS }
     ensures numbers { IfOk result (λ ns. ns.items ≡ map (first_piece_of BLOCK_INSTS long.now.blocks.items) (numbers_from 2 functions.now)) }
@@ -54,7 +54,7 @@ fn block_numbers(
 {
     let blocks = long.blocks.as_slice();
     let pieces = first_pieces(alloc, blocks)?;
-    let namings = long.namings.as_slice();
+    let namings = long.numbers.namings.as_slice();
     let numbers = number_each(alloc, namings, functions)?;
     let found = all_at(alloc, pieces.as_slice(), numbers.as_slice())?;
     Ok(found)

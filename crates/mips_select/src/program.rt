@@ -81,12 +81,11 @@ pub(crate) fn homes_with_room<'a>(
     Ok(homed)
 }
 
-/// Has the blocks of a program, of any length, the first block of each one's function, and how the program's blocks are named.
+/// Has the blocks of a program, of any length, and their numbers.
 #[derive(Drop)]
 pub(crate) struct LongUnit {
     pub(crate) blocks: Vec<LongBlock>,
-    pub(crate) owners: Vec<BlockNumber>,
-    pub(crate) namings: Vec<Vec<Naming>>,
+    pub(crate) numbers: Numbers,
 }
 
 /// Returns the blocks of a program whose homes are chosen, before long ones are cut.
@@ -94,8 +93,8 @@ pub(crate) fn long_unit(alloc: Global, homed: &Homed) -> Result<LongUnit, Select
     requires places { ArePlaced homed.now }
     requires frames { AreReachable homed.now.frames.items }
     ensures blocks { IfOk result (λ l. l.blocks.items ≡ program_blocks homed.now) }
-    ensures owners { IfOk result (λ l. l.owners.items ≡ owners_for (homed.now.rtl.now).functions) }
-    ensures namings { IfOk result (λ l. AreNamed l.namings.items (homed.now.rtl.now).functions) }
+    ensures owners { IfOk result (λ l. l.numbers.owners.items ≡ owners_for (homed.now.rtl.now).functions) }
+    ensures namings { IfOk result (λ l. AreNamed l.numbers.namings.items (homed.now.rtl.now).functions) }
     ensures few { IfOk result (λ _. 2 + functions_size (homed.now.rtl.now).functions ≤ UNIT_BLOCKS) }
     ensures limit { IfErr result (λ e. e ≡ SelectFault.Limit → UNIT_BLOCKS < length (unit_for homed.now).blocks) }
 {
@@ -103,30 +102,20 @@ pub(crate) fn long_unit(alloc: Global, homed: &Homed) -> Result<LongUnit, Select
     let entries = numbers.entries.as_slice();
     let count = numbers.owners.len();
     let blocks = emit_program(alloc, homed, entries, numbers.namings.as_slice(), count)?;
-    let Numbers {
-        owners,
-        namings,
-        ..
-    } = numbers;
-    Ok(LongUnit {
-        blocks,
-        owners,
-        namings,
-    })
+    Ok(LongUnit { blocks, numbers })
 }
 
 /// Makes the unit of a program over its homes, of its long blocks.
 pub(crate) fn unit_of(alloc: Global, homed: &Homed, long: LongUnit) -> Result<Unit, SelectFault>
     requires places { ArePlaced homed.now }
     requires blocks { long.blocks.items ≡ program_blocks homed.now }
-    requires owners { long.owners.items ≡ owners_for (homed.now.rtl.now).functions }
+    requires owners { long.numbers.owners.items ≡ owners_for (homed.now.rtl.now).functions }
     ensures unit { IfOk result (λ u. u ≡ unit_for homed.now) }
     ensures runs { IfOk result (λ u. (depth : ℕ) → FramesFit homed.now.rtl.now depth → KeepsRuns homed.now.rtl.now depth u) }
     ensures limit { IfErr result (λ e. e ≡ SelectFault.Limit → UNIT_BLOCKS < length (unit_for homed.now).blocks) }
 {
     let bytes = globals_bytes(alloc, homed.rtl.globals())?;
-    let LongUnit { blocks, owners, .. } = long;
-    split_unit(alloc, blocks, owners.as_slice(), bytes)
+    split_unit(alloc, long.blocks, long.numbers.owners.as_slice(), bytes)
 }
 
 /// Makes the unit of a program, whose stack holds `depth` activations: wherever the program isn't wrong, the unit comes to the same end and

@@ -2,7 +2,7 @@ use Rattle.std.proofs.Common.{arith}
 use Rattle.mips_select.specs.Split.{first_piece_of}
 use Rattle.mips_select.proofs.Places.{total_above, length-split_from}
 use Rattle.mips_select.proofs.Well.{piece_of, pieces_linked, pieces_owned}
-use Rattle.mips_select.proofs.split_laws.each_split_unit_is_well.Goals as goal
+use Rattle.mips_select.proofs.laws.each_split_unit_is_well.Goals as goal
 
 pub returns : goal.returns
 returns c = λ blocks owner linked owners. record {
