@@ -1,7 +1,6 @@
 -- The laid out orders run as the unit does.
-use Rattle.std.proofs.Common.{◌≡◌, ◌≢◌, ℕ, zero, suc, ◌+◌, ◌-◌, ◌*◌, ◌^◌, ◌<◌, ◌≤◌, inl, inr, Bool, true, false, cond, List, []}
-use Rattle.std.proofs.Common.{◌∷◌, ◌++◌, map, length, slice_get, All, Option, Some, None, ◌==◌, refl, sym, ap, ◌∙◌, subst, true≢false}
-use Rattle.std.proofs.Common.{eqb-true, arith}
+use Rattle.std.proofs.Common.{◌≡◌, ◌≢◌, ℕ, zero, suc, ◌+◌, ◌-◌, ◌*◌, ◌^◌, ◌<◌, ◌≤◌, inl, inr, Bool, true, false, cond, List, [], ◌∷◌, ◌++◌}
+use Rattle.std.proofs.Common.{map, length, slice_get, All, Option, Some, None, ◌==◌, refl, sym, ap, ◌∙◌, subst, true≢false, eqb-true, arith}
 use Rattle.std.specs.Prelude.{is_some}
 use Rattle.std.proofs.lemmas.List.{length-map}
 use Rattle.std.proofs.lemmas.Bool.{cases_lt, cond-true}
@@ -14,11 +13,12 @@ use Rattle.mips_isa.specs.declared.inst.Inst.{Inst}
 use Rattle.mips_isa.specs.declared.inst.Inst.TheVariants as I
 use Rattle.mips_isa.specs.Ranges.{IsInst}
 use Rattle.mips_isa.specs.States.{State, IsWords}
-use Rattle.mips_isa.specs.Actions.{action_of, is_safe, state_after}
+use Rattle.mips_isa.specs.Actions.{action_of, is_safe, state_after, nop}
 use Rattle.mips_code.specs.Words.{inst_word}
 use Rattle.mblock.specs.declared.exit.Exit.{Exit}
 use Rattle.mblock.specs.declared.exit.Exit.TheVariants.{Call}
 use Rattle.mblock.specs.Parts.{BlockParts, OrderParts}
+use Rattle.std.specs.Option.{option_map_or}
 use Rattle.mblock.specs.Slots.{is_slotted}
 use Rattle.mblock.specs.BlockMeaning.{Calls, exit_shape, Departure, GoesTo, CallsTo, GoesBack, PrintsTo, HaltsWith, exit_effect}
 use Rattle.mblock.specs.BlockMeaning.{exit_effect_after, run, block_effect}
@@ -26,9 +26,7 @@ use Rattle.mips_code.specs.declared.steps.Ending.TheVariants as endings
 use Rattle.mips_code.specs.Machines as def
 use Rattle.mips_code.specs.Machines.{Machine, words_code, machine_run}
 use Rattle.mips_asm.specs.Fetching.{insts_code}
-use Rattle.mips_isa.specs.Actions.{nop}
-use Rattle.mips_asm.specs.Layout.{place, exit_size, exit_insts, slot_insts, jump_to, order_length, address_of_place}
-use Rattle.mips_asm.specs.Layout.{layout, links_of}
+use Rattle.mips_asm.specs.Layout.{place, exit_size, exit_insts, slot_insts, jump_to, address_of_place, layout, links_of}
 use Rattle.mips_asm.proofs.Fetches.{runs_same}
 use Rattle.mips_asm.proofs.Within.{place_next, place_mono, place_most, place_none, place_room}
 use Rattle.mblock.specs.UnitRuns.{wrong, outcome_at_block, outcome_at_return, call_return_of, return_block_of, outcome_of_departure}
@@ -174,7 +172,7 @@ module _ (blocks : List BlockParts) (orders : List OrderParts) (h : AreOrders bl
   order_for t b e = let lt = slice_get_within blocks t b e in there_is orders t (omega (arith, lt, h.long))
 
   link_is : (t : ℕ) (o : OrderParts) → slice_get orders t ≡ Some o → links t ≡ address_of_place (start t + length o.insts + 2)
-  link_is t o e = ap (λ x. address_of_place (start t + order_length x + 2)) e
+  link_is t o e = ap (λ x. address_of_place (start t + option_map_or (λ (o : OrderParts). length o.insts) x 0 + 2)) e
 
   link_below : (t : ℕ) (o : OrderParts) → slice_get orders t ≡ Some o → links t < 2 ^ 32
   link_below t o e = omega (arith, link_is t o e, place_room orders t o e, insts_length start orders 0 h.fits, room)
@@ -223,7 +221,7 @@ module _ (blocks : List BlockParts) (orders : List OrderParts) (h : AreOrders bl
       go : (k : ℕ) (x : Option OrderParts) → slice_get orders k ≡ x → links k < 2 ^ 32
       go k (Some o) e = link_below k o e
       go k None e =
-          let l : links k ≡ address_of_place (place orders k + 0 + 2) = ap (λ x. address_of_place (place orders k + order_length x + 2)) e in
+          let l : links k ≡ address_of_place (place orders k + 0 + 2) = ap (λ x. address_of_place (place orders k + option_map_or (λ (o : OrderParts). length o.insts) x 0 + 2)) e in
           omega (arith, place_most orders k, insts_length (place orders) orders 0 h.fits)
 
   module _ (P : ℕ → ℕ → Type 0) (e : ℕ) (measure : IsMeasure blocks orders P e) where

@@ -20,7 +20,7 @@ use Rattle.mips_isa.specs.declared.inst.Inst.TheVariants as I
 use Rattle.mips_isa.specs.declared.action.Action.{Action}
 use Rattle.mips_isa.specs.declared.action.Action.TheVariants.{Loads}
 use Rattle.mips_isa.specs.States.{State, read, put}
-use Rattle.mips_isa.specs.Actions.{action_of, is_load, is_move}
+use Rattle.mips_isa.specs.Actions.{action_of, is_load, is_move, nop}
 use Rattle.mips_isa.specs.Flows.{Nothing, Flow, state_with_pending, pending_of, shown_state, on_pending, flow_after, quiet}
 use Rattle.mips_isa.specs.Rules.{is_stuck}
 use Rattle.mips_isa.specs.Steps.{words_from}
@@ -38,7 +38,6 @@ use Rattle.mips_code.specs.declared.steps.Ending.TheVariants as endings
 use Rattle.mips_isa.specs.Controls.{pair_passes, zero_passes, control_touches, goes_elsewhere, calls_another, jump_target, branch_target}
 use Rattle.mips_code.specs.Machines.{Machine, Goes, outcome_behind, machine_run, step_of, instruction_step, jump_step, system_step}
 use Rattle.mips_asm.specs.Fetching.{insts_code}
-use Rattle.mips_isa.specs.Actions.{nop}
 use Rattle.mips_asm.specs.Layout.{address_of_place, jump_to, branch_offset, exit_insts, order_insts}
 use Rattle.mips_asm.proofs.Unbroken.{system_goes}
 use Rattle.mips_asm.proofs.LayoutPlaces.{HasAt, has_front, has_back, jump_lands}

@@ -12,8 +12,7 @@ use Rattle.mblock.specs.declared.exit.Exit.{Exit}
 use Rattle.mblock.specs.declared.exit.Exit.TheVariants.{Goto, BranchPair, BranchZero, Call, Out}
 use Rattle.mblock.specs.Parts.{OrderParts}
 use Rattle.mblock.specs.Units.{GoesBelow}
-use Rattle.mips_asm.specs.Layout.{size, place, exit_insts}
-use Rattle.mips_asm.specs.Layout.{insts_of, layout, order_insts}
+use Rattle.mips_asm.specs.Layout.{size, place, exit_insts, insts_of, layout, order_insts}
 use Rattle.mips_asm.proofs.Within.{place_next}
 use Rattle.std.specs.List.{AllByRecursion}
 use Rattle.mips_asm.specs.Functions.{AreFunctions}

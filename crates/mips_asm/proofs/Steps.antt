@@ -9,7 +9,7 @@ use Rattle.mips_isa.specs.declared.inst.Control.TheVariants as controls
 use Rattle.mips_isa.specs.declared.inst.Inst.{Inst}
 use Rattle.mips_isa.specs.declared.inst.Inst.TheVariants as I
 use Rattle.mips_isa.specs.States.{State}
-use Rattle.mips_isa.specs.Actions.{action_of}
+use Rattle.mips_isa.specs.Actions.{action_of, nop}
 use Rattle.mips_isa.specs.Flows.{Nothing, Flow, state_with_pending, on_pending, flow_after, quiet}
 use Rattle.mips_isa.specs.Rules.{is_stuck}
 use Rattle.mips_isa.specs.Steps.{words_from}
@@ -17,7 +17,6 @@ use Rattle.mips_code.specs.declared.steps.Fetched.TheVariants.{Fetches}
 use Rattle.mips_isa.specs.Controls.{control_touches, goes_elsewhere, calls_another, jump_target}
 use Rattle.mips_code.specs.Machines.{Machine, Goes, outcome_behind, machine_run, step_of, instruction_step, jump_step}
 use Rattle.mips_asm.specs.Fetching.{insts_code}
-use Rattle.mips_isa.specs.Actions.{nop}
 use Rattle.mips_asm.specs.Layout.{address_of_place, jump_to}
 use Rattle.mips_asm.proofs.Unbroken.{plain_goes, control_goes}
 use Rattle.mips_asm.proofs.LayoutPlaces.{HasAt, fetch_at, jump_lands}

@@ -1,5 +1,5 @@
 -- What the emitter writes.
-use Rattle.std.specs.Prelude.{◌≤◌, ◌≡◌, Some, slice_get, ℕ, ◌+◌, List, [], ◌∷◌, length, slice_index}
+use Rattle.std.specs.Prelude.{◌≤◌, ◌≡◌, Some, slice_get, ℕ, ◌+◌, List, [], ◌∷◌, length, slice_index, FitsSigned}
 use Rattle.std.specs.List.{AllByRecursion}
 use Rattle.mips_isa.specs.declared.inst.Inst.{Inst}
 use Rattle.mips_isa.specs.Ranges.{IsInst}
@@ -8,7 +8,6 @@ use Rattle.mblock.specs.declared.exit.Exit.TheVariants.{BranchPair, BranchZero}
 use Rattle.mblock.specs.declared.limits.TheConstants.{UNIT_BLOCKS}
 use Rattle.mblock.specs.Parts.{OrderParts}
 use Rattle.mblock.specs.Units.{GoesBelow}
-use Rattle.std.specs.Prelude.{FitsSigned}
 use Rattle.std.specs.Int.{w16}
 use Rattle.mips_asm.specs.declared.limits.TheConstants.{CODE_WORDS}
 use Rattle.mips_asm.specs.Layout.{size, place, branch_offset}

@@ -1,5 +1,6 @@
 -- Code of instructions, and code of their words.
-use Rattle.std.specs.Prelude.{◌≡◌, ℕ, ◌-◌, ◌/◌, List, map, All, Option, Some, None, slice_get, if◌then◌else◌}
+use Rattle.std.specs.Prelude.{◌≡◌, ℕ, ◌-◌, ◌/◌, List, map, All, Option, slice_get, if◌then◌else◌}
+use Rattle.std.specs.Option.{option_map_or}
 use Rattle.mips_isa.specs.declared.inst.Inst.{Inst}
 use Rattle.mips_isa.specs.Ranges.{IsInst}
 use Rattle.mips_code.specs.Words.{inst_word}
@@ -8,8 +9,7 @@ use Rattle.mips_code.specs.declared.steps.Fetched.TheVariants.{NoWord, Fetches}
 use Rattle.mips_code.specs.Machines.{Code, Machine, code_base, is_code_address, words_code, machine_run}
 
 abbrev pub of_inst : Option Inst → Fetched
-of_inst None = NoWord
-of_inst (Some i) = Fetches i
+of_inst inst = option_map_or Fetches inst NoWord
 
 -- the code of these instructions
 abbrev pub insts_code : List Inst → Code

@@ -1,5 +1,6 @@
 -- The words of orders, one after the other.
-use Rattle.std.specs.Prelude.{ℕ, zero, suc, ◌+◌, ◌*◌, ◌/◌, ℤ, pos, ◌-ℤ◌, List, [], ◌∷◌, ◌++◌, map, length, Option, Some, None, slice_get}
+use Rattle.std.specs.Prelude.{ℕ, zero, suc, ◌+◌, ◌*◌, ◌/◌, ℤ, pos, ◌-ℤ◌, List, [], ◌∷◌, ◌++◌, map, length, Option, slice_get}
+use Rattle.std.specs.Option.{option_map_or, option_to_list}
 use Rattle.mips_isa.specs.declared.inst.Plain.{Plain}
 use Rattle.mips_isa.specs.declared.inst.Plain.TheVariants.{Imm}
 use Rattle.mips_isa.specs.declared.inst.ImmOp.TheVariants.{Addiu}
@@ -15,12 +16,9 @@ use Rattle.mblock.specs.Parts.{OrderParts}
 
 abbrev pub exit_size : Exit → ℕ
 exit_size (Goto t) = 2
-exit_size (BranchPair test a b t e) = 4
-exit_size (BranchZero test a t e) = 4
-exit_size (Call f n) = 4
 exit_size Return = 2
-exit_size (Out n) = 4
 exit_size Halt = 2
+exit_size _ = 4
 
 abbrev pub size : OrderParts → ℕ
 size o = length o.insts + exit_size o.exit
@@ -35,8 +33,7 @@ abbrev pub address_of_place : ℕ → ℕ
 address_of_place p = code_base + 4 * p
 
 abbrev pub slot_insts : Option Plain → List Inst
-slot_insts None = []
-slot_insts (Some i) = insts.Plain i ∷ []
+slot_insts slot = map insts.Plain (option_to_list slot)
 
 abbrev pub jump_to : ℕ → Inst
 jump_to p = insts.Control (controls.JumpTo Jump (address_of_place p / 4))
@@ -74,10 +71,6 @@ insts_of start here (o ∷ rest) = order_insts start here o ++ insts_of start (h
 abbrev pub layout : List OrderParts → List Inst
 layout orders = insts_of (place orders) 0 orders
 
-abbrev pub order_length : Option OrderParts → ℕ
-order_length None = 0
-order_length (Some o) = length o.insts
-
 -- the link of a call in block k: after its jump and slot
 abbrev pub links_of : List OrderParts → ℕ → ℕ
-links_of orders k = address_of_place (place orders k + order_length (slice_get orders k) + 2)
+links_of orders k = address_of_place (place orders k + option_map_or (λ (o : OrderParts). length o.insts) (slice_get orders k) 0 + 2)

@@ -16,18 +16,19 @@ decoded_text (Some (insts.Plain i)) address = instruction_text i
 decoded_text (Some (insts.Control c)) address = control_text c address
 
 abbrev pub code_line : (address word : ℕ) → List ℕ
-code_line address word = word_text address ++ (codes "  " ++ (word_text word ++ (codes "  " ++ decoded_text (instruction_of word) address)))
+code_line address word =
+    word_text address ++ (codes "  " ++ (word_text word ++ (codes "  " ++ (decoded_text (instruction_of word) address ++ codes "\n"))))
 
 abbrev pub word_line : (address word : ℕ) → List ℕ
-word_line address word = word_text address ++ (codes "  " ++ (word_text word ++ codes "  .word"))
+word_line address word = word_text address ++ (codes "  " ++ (word_text word ++ codes "  .word\n"))
 
 abbrev pub byte_line : (address byte : ℕ) → List ℕ
-byte_line address byte = word_text address ++ (codes "  " ++ (byte_text byte ++ codes "  .byte"))
+byte_line address byte = word_text address ++ (codes "  " ++ (byte_text byte ++ codes "  .byte\n"))
 
 -- a line for each item, where these lie so far apart
 abbrev pub lines_at : (ℕ → ℕ → List ℕ) → (step address : ℕ) → List ℕ → List ℕ
 lines_at line step address [] = []
-lines_at line step address (x ∷ xs) = (line address x ++ codes "\n") ++ lines_at line step (address + step) xs
+lines_at line step address (x ∷ xs) = line address x ++ lines_at line step (address + step) xs
 
 -- the data: its whole words, and the bytes after them
 abbrev pub data_lines : List ℕ → List ℕ

@@ -1,7 +1,6 @@
 //! The words of orders, in the order of the layout.
 
-ghost use Rattle.std.specs.Prelude.{◌≡◌, ◌+◌, ◌*◌, ◌<◌, ◌≤◌, ◌++◌, ◌∷◌, [], All, length, map, slice_index, FitsSigned, Err, OnOk};
-ghost use Rattle.std.specs.Prelude.{IfOk};
+ghost use Rattle.std.specs.Prelude.{◌≡◌, ◌+◌, ◌*◌, ◌<◌, ◌≤◌, ◌++◌, ◌∷◌, [], All, length, map, slice_index, FitsSigned, Err, OnOk, IfOk};
 ghost use Rattle.std.specs.Int.{w16};
 ghost use Rattle.mips_isa.specs.declared.inst.Inst.TheVariants as insts;
 ghost use Rattle.mips_isa.specs.declared.inst.Control.TheVariants.{SystemCall};
@@ -80,10 +79,7 @@ fn place_at(places: &[u32], block: BlockNumber) -> u32
     ensures value { result ≡ start_of places.now block }
     ensures small { result ≤ CODE_WORDS }
 {
-    match places.get(block.number() as usize) {
-        Some(place) => *place,
-        None => 0,
-    }
+    places.get(block.number() as usize).copied().unwrap_or(0)
 }
 
 /// Writes a word, its slot, and the way on.

@@ -6,8 +6,7 @@ ghost use Rattle.mips_isa.specs.Starting.{data_base};
 ghost use Rattle.mips_code.specs.Decoding.{instruction_of};
 ghost use Rattle.image.specs.Images.{code_base, word_at_byte, words_of};
 ghost use Rattle.image.specs.declared.limits.TheConstants as image_limits;
-ghost use Rattle.mips_asm.specs.Listing.{byte_line, code_line, data_lines, decoded_text, lines_at, listing};
-ghost use Rattle.mips_asm.specs.Listing.{word_line};
+ghost use Rattle.mips_asm.specs.Listing.{byte_line, code_line, data_lines, decoded_text, lines_at, listing, word_line};
 
 use image::Image;
 use mips_code::decode;
@@ -38,70 +37,18 @@ impl fmt::Display for Decoded {
     }
 }
 
-// A word of code at its address.
-#[derive(Clone, Copy)]
-struct CodeLine {
-    address: u32,
-    word: u32,
-}
-
-impl fmt::Display for CodeLine {
-    ghost output = { λ l. Some (code_line l.address l.word) };
-
-    fn fmt<W: fmt::Write>(&self, f: &mut fmt::Formatter<W>) -> fmt::Result {
-        let (address, word) = (self.address, self.word);
-        let place = WordDigits(address);
-        let digits = WordDigits(word);
-        let decoded = Decoded { address, word };
-        write!(f, "{place}  {digits}  {decoded}")
-    }
-}
-
-// A word of data at its address.
-#[derive(Clone, Copy)]
-struct WordLine {
-    address: u32,
-    word: u32,
-}
-
-impl fmt::Display for WordLine {
-    ghost output = { λ l. Some (word_line l.address l.word) };
-
-    fn fmt<W: fmt::Write>(&self, f: &mut fmt::Formatter<W>) -> fmt::Result {
-        let place = WordDigits(self.address);
-        let digits = WordDigits(self.word);
-        write!(f, "{place}  {digits}  .word")
-    }
-}
-
-// A byte of data at its address.
-#[derive(Clone, Copy)]
-struct ByteLine {
-    address: u32,
-    byte: u8,
-}
-
-impl fmt::Display for ByteLine {
-    ghost output = { λ l. Some (byte_line l.address l.byte) };
-
-    fn fmt<W: fmt::Write>(&self, f: &mut fmt::Formatter<W>) -> fmt::Result {
-        let place = WordDigits(self.address);
-        let digits = ByteDigits(self.byte);
-        write!(f, "{place}  {digits}  .byte")
-    }
-}
-
 fn put_code(out: &mut String, code: &[u32]) -> Result<(), AllocError>
     requires { length code.now ≤ image_limits.CODE_WORDS }
     ensures { OnOk result (string_bytes out.new ≡ string_bytes out.old ++ lines_at code_line 4 code_base code.now) }
 {
     let mut address = CODE_BASE;
     for word in code {
-        let line = CodeLine {
+        let (place, digits) = (WordDigits(address), WordDigits(*word));
+        let decoded = Decoded {
             address,
             word: *word,
         };
-        writeln!(out, "{line}")?;
+        writeln!(out, "{place}  {digits}  {decoded}")?;
         address += 4;
     }
     Ok(())
@@ -127,11 +74,8 @@ fn put_words(out: &mut String, count: usize, bytes: &[u8]) -> Result<(), AllocEr
     let mut rest = bytes;
     for _ in 0..count {
         let (_, behind) = rest.split_at(4);
-        let line = WordLine {
-            address,
-            word: word_at_byte(rest),
-        };
-        writeln!(out, "{line}")?;
+        let (place, digits) = (WordDigits(address), WordDigits(word_at_byte(rest)));
+        writeln!(out, "{place}  {digits}  .word")?;
         address += 4;
         rest = behind;
     }
@@ -144,11 +88,8 @@ fn put_bytes(out: &mut String, first: u32, bytes: &[u8]) -> Result<(), AllocErro
 {
     let mut address = first;
     for byte in bytes {
-        let line = ByteLine {
-            address,
-            byte: *byte,
-        };
-        writeln!(out, "{line}")?;
+        let (place, digits) = (WordDigits(address), ByteDigits(*byte));
+        writeln!(out, "{place}  {digits}  .byte")?;
         address += 1;
     }
     Ok(())

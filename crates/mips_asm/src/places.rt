@@ -12,13 +12,8 @@ fn exit_size(exit: Exit) -> u32
     ensures { result ≡ exit_size exit }
 {
     match exit {
-        Exit::Goto(_) => 2,
-        Exit::BranchPair { .. } => 4,
-        Exit::BranchZero { .. } => 4,
-        Exit::Call { .. } => 4,
-        Exit::Return => 2,
-        Exit::Out(_) => 4,
-        Exit::Halt => 2,
+        Exit::Goto(_) | Exit::Return | Exit::Halt => 2,
+        _ => 4,
     }
 }
 
