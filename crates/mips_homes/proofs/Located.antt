@@ -1,8 +1,9 @@
 -- Places serve, as homes do.
 use Rattle.std.proofs.Common.{◌≡◌, ℕ, zero, suc, ◌+◌, ◌<◌, ◌≤◌, ◌⊎◌, inl, inr, ⊎_elim, Bool, true, false, ◌&&◌, List, [], ◌∷◌, ◌++◌}
-use Rattle.std.proofs.Common.{Some, refl, sym, ap, ◌∙◌, arith, add-zero, add-suc, suc-add, zero-add, length, nat_eq, true≢false, eqb-true, eq-eqb}
+use Rattle.std.proofs.Common.{Some, refl, sym, ap, ◌∙◌, arith, add-zero, add-suc, suc-add, zero-add, length, drop, nat_eq, true≢false, eqb-true, eq-eqb}
 use Rattle.std.specs.Prelude.{if◌then◌else◌, Option, None, not, slice_get}
-use Rattle.std.proofs.lemmas.Bool.{and_parts, or_parts, or_cases, or_right, le-ltb, not-true}
+use Rattle.std.specs.List.{filter, list_any}
+use Rattle.std.proofs.lemmas.Bool.{and_parts, or_parts, or_cases, or_right, le-ltb, not-true, false_from_ne_true}
 use Rattle.std.proofs.lemmas.List.Sums.{length-filter, count_by-le-length}
 use Rattle.std.proofs.lemmas.Map.Keys.{any_passes_from_place}
 use Rattle.std.proofs.lemmas.Option.{same_Some, none-some}
@@ -12,7 +13,7 @@ use Rattle.mips_homes.specs.HomedRun.{is_in, is_callee_saved, homed_run}
 use Rattle.mips_homes.specs.Homes.{AreApart, Serves, cell}
 use Rattle.mips_homes.specs.Laws.{KeepsRtlRuns}
 use Rattle.mips_homes.specs.Choice.{IsChoice}
-use Rattle.mips_homes.specs.Locals.{is_local, none_reads_first, some_go_to, block_reads_first}
+use Rattle.mips_homes.specs.Locals.{is_local, some_go_to, block_reads_first}
 use Rattle.mips_homes.specs.Preferences.{reach_from, exit_reach, blocks_reach, preference}
 use Rattle.mips_homes.specs.Convention.{temporaries}
 use Rattle.mips_homes.specs.Copies.{unused}
@@ -146,14 +147,15 @@ module _ (local : ℕ → Bool) (preference : ℕ → Option ℕ) where
 -- local to blocks
 local_to : (bs : List RBlock) (x : ℕ) → is_local bs x ≡ true → (b : ℕ) (block : RBlock) → slice_get bs b ≡ Some block → some_go_to bs b ≡ true
     → block_reads_first block x ≡ false
-local_to bs x is b block there goes = from (some_go_to bs 0) bs b is there (λ z. sym (ap (some_go_to bs) z) ∙ goes)
+local_to bs x is b block there goes = false_from_ne_true (block_reads_first block x) (λ reads.
+    true≢false (sym (counts bs b (some_go_to bs 0) there reads (λ z. sym (ap (some_go_to bs) z) ∙ goes)) ∙ not-true _ is))
   where
-    from : (first : Bool) (ks : List RBlock) (b : ℕ) → none_reads_first first ks x ≡ true → slice_get ks b ≡ Some block → (b ≡ 0 → first ≡ true)
-        → block_reads_first block x ≡ false
-    from first [] b e there met = absurd (none-some block there)
-    from first (k ∷ ks) zero e there met =
-        rw (← same_Some k block there) (grind (arith, met refl))
-    from first (k ∷ ks) (suc b) e there met = from true ks b (grind arith) there (λ z. refl)
+    counts : (ks : List RBlock) (b : ℕ) (first : Bool) → slice_get ks b ≡ Some block → block_reads_first block x ≡ true → (b ≡ 0 → first ≡ true)
+        → list_any (λ k. block_reads_first k x) (if first then ks else drop 1 ks) ≡ true
+    counts ks b true there reads met = any_passes_from_place (λ k. block_reads_first k x) ks b block there reads
+    counts [] b false there reads met = absurd (none-some block there)
+    counts (k ∷ ks) zero false there reads met = absurd (true≢false (sym (met refl)))
+    counts (k ∷ ks) (suc b) false there reads met = any_passes_from_place (λ k. block_reads_first k x) ks b block there reads
 
 -- ---- preferences
 
@@ -175,24 +177,20 @@ blocks_cover (k ∷ bs) (suc b) block x e = omega (arith, blocks_cover bs b bloc
 
 -- ---- registers that are left for copies, and registers that are still saved
 
-in_unused : (hs : List Home) (rs : List ℕ) (r : ℕ) → is_in (unused hs rs) r ≡ (is_in rs r && not (lives_in hs r))
-in_unused hs [] r = refl
-in_unused hs (q ∷ rs) r = grind (arith, nat_tests, in_unused hs rs r)
+in_filter : (test : ℕ → Bool) (rs : List ℕ) (r : ℕ) → is_in (filter test rs) r ≡ (is_in rs r && test r)
+in_filter test [] r = refl
+in_filter test (q ∷ rs) r = grind (arith, nat_tests, in_filter test rs r)
 
 pub unused_temporary : (hs : List Home) (j r : ℕ) → slice_get (unused hs temporaries) j ≡ Some r → IsTemporary r × (lives_in hs r ≡ false)
 unused_temporary hs j r e =
-    let both = and_parts (is_in temporaries r) (not (lives_in hs r)) (sym (in_unused hs temporaries r) ∙ is_in_at (unused hs temporaries) j r e) in
+    let both = and_parts (is_in temporaries r) (not (lives_in hs r)) (sym (in_filter (λ r. not (lives_in hs r)) temporaries r) ∙ is_in_at (unused hs temporaries) j r e) in
     (temporary_is r both.0, not-true (lives_in hs r) both.1)
 
 pub lives : (hs : List Home) (x r : ℕ) → slice_get hs x ≡ Some (Reg r) → lives_in hs r ≡ true
 lives hs x r e = any_passes_from_place (λ h. is_register h r) hs x (Reg r) e (eq-eqb r r refl)
 
-in_still : (hs : List Home) (rs : List ℕ) (r : ℕ) → is_in (still_saved hs rs) r ≡ (is_in rs r && lives_in hs r)
-in_still hs [] r = refl
-in_still hs (q ∷ rs) r = grind (arith, nat_tests, in_still hs rs r)
-
 pub still_was : (hs : List Home) (rs : List ℕ) (j r : ℕ) → slice_get (still_saved hs rs) j ≡ Some r → (i : ℕ) × (slice_get rs i ≡ Some r)
-still_was hs rs j r e = in_at rs r (and_parts (is_in rs r) (lives_in hs r) (sym (in_still hs rs r) ∙ is_in_at (still_saved hs rs) j r e)).0
+still_was hs rs j r e = in_at rs r (and_parts (is_in rs r) (lives_in hs r) (sym (in_filter (lives_in hs) rs r) ∙ is_in_at (still_saved hs rs) j r e)).0
 
 pub still_few : (hs : List Home) (rs : List ℕ) → length (still_saved hs rs) ≤ length rs
 still_few hs rs = omega (arith, length-filter (lives_in hs) rs, count_by-le-length (lives_in hs) rs)
@@ -272,7 +270,7 @@ module _ (func : RFunc) (c f : Frame) (ok : IsChoice func c) (p : IsPlaced func.
     where
       kept : (x r : ℕ) → slice_get f.homes.items x ≡ Some (Reg r) → is_callee_saved r ≡ true → is_in f.saved.items r ≡ true
       kept x r e lasts = ⊎_elim
-          (λ home. rw (p.saved, in_still f.homes.items c.saved.items r, (ok.registers x r home).1, lives f.homes.items x r e))
+          (λ home. rw (p.saved, in_filter (lives_in f.homes.items) c.saved.items r, (ok.registers x r home).1, lives f.homes.items x r e))
           (λ q. absurd (true≢false (sym lasts ∙ ap is_callee_saved (same_register r q.r q.is) ∙ temporary_caller_saved q preferences)))
           (case_of x (Reg r) e)
 

@@ -18,11 +18,10 @@ use Rattle.rtl.specs.Meaning.{Code, code_of, words_in, argument_registers, kept_
 use Rattle.rtl.proofs.Copies.{goes_block}
 use Rattle.mips_homes.specs.Locals.{inst_reads, inst_writes, reads_first, block_reads_first, goes_to, some_go_to}
 use Rattle.mips_homes.specs.HomedRun.{cells, Surroundings, around, is_callee_saved, callee_saved, Activation, new_activation, Run, Running}
-use Rattle.mips_homes.specs.HomedRun.{Ended, Failed}
-use Rattle.mips_homes.specs.HomedRun.{with_value, in_home, read_home, read_homes, write_at}
-use Rattle.mips_homes.specs.HomedRun.{write_home, write_homes, is_in, registers_at_entry, registers_at_return, with_inst, at_code}
-use Rattle.mips_homes.specs.HomedRun.{state_at_block, with_result, state_after_return, state_after_call, state_after_exit, step_at}
-use Rattle.mips_homes.specs.HomedRun.{homed_step, homed_steps, homed_start, homed_run, outcome}
+use Rattle.mips_homes.specs.HomedRun.{Ended, Failed, with_value, in_home, read_home, read_homes, write_at, write_home, write_homes, is_in}
+use Rattle.mips_homes.specs.HomedRun.{registers_at_entry, registers_at_return, with_inst, at_code, state_at_block, with_result}
+use Rattle.mips_homes.specs.HomedRun.{state_after_return, state_after_call, state_after_exit, step_at, homed_step, homed_steps, homed_start}
+use Rattle.mips_homes.specs.HomedRun.{homed_run, outcome}
 use Rattle.mips_homes.specs.Homes.{HasHome, HaveHomes, AreHomes, AreAllHomes, cell}
 use Rattle.mips_homes.specs.Forgetting.{ForgetsNothing}
 use Rattle.mips_homes.specs.Laws.{KeepsRtlRuns}

@@ -1,11 +1,13 @@
 -- What a walk over blocks sees, one instruction after another.
-use Rattle.std.proofs.Common.{◌≡◌, ℕ, ◌+◌, ◌<◌, ◌≤◌, true, ◌&&◌, List, [], ◌∷◌, ◌++◌, refl, sym, ap, ◌∙◌, arith, length, drop, get_or}
-use Rattle.std.specs.Prelude.{◌||◌, not}
+use Rattle.std.proofs.Common.{◌≡◌, ℕ, ◌+◌, ◌<◌, ◌≤◌, ◌&&◌, List, [], ◌∷◌, ◌++◌, sym, ap, ◌∙◌, arith, length, drop, get_or}
+use Rattle.std.specs.Prelude.{◌||◌, not, nat_eq}
+use Rattle.std.specs.List.{list_any}
 use Rattle.std.proofs.lemmas.List.{drop_all, at_drop_more}
+use Rattle.std.proofs.lemmas.List.Folds.{list_any-append}
 use Rattle.rtl.specs.declared.instruction.RInst.{RInst}
 use Rattle.rtl.specs.declared.block.RBlock.{RBlock}
 use Rattle.mips_homes.specs.HomedRun.{is_in}
-use Rattle.mips_homes.specs.Locals.{inst_reads, inst_writes, exit_reads, reads_first, block_reads_first, none_reads_first, is_local}
+use Rattle.mips_homes.specs.Locals.{inst_reads, inst_writes, exit_reads, reads_first, block_reads_first, is_local}
 use Rattle.mips_homes.specs.Walks.{sight_at, is_read_first, is_unwritten, IsUpTo, Sees}
 use Rattle.mips_homes.specs.declared.locals.Sight.{Sight}
 
@@ -15,8 +17,7 @@ pub sees_none : (k : ℕ) (s : List Sight) → Sees k s s [] []
 sees_none k s = record { first = λ x. grind arith; unwritten = λ x. grind arith; late = λ up. up }
 
 pub in_append : (xs ys : List ℕ) (x : ℕ) → is_in (xs ++ ys) x ≡ (is_in xs x || is_in ys x)
-in_append [] ys x = refl
-in_append (y ∷ xs) ys x = grind (arith, in_append xs ys x)
+in_append xs ys x = list_any-append (λ y. nat_eq x y) xs ys
 
 -- reads, and then more of them and writes
 pub sees_then : (k : ℕ) (s t u : List Sight) (xs ys ws : List ℕ) → Sees k s t xs [] → Sees k t u ys ws → Sees k s u (xs ++ ys) ws
@@ -62,14 +63,14 @@ all_end k xs i start s le before = before s (rw (drop_all i xs le) (sees_none k 
 
 -- where a walk over blocks has come to these, the first of which has the number i
 pub record AreSeenTo (i : ℕ) (now : List Sight) (left bs : List RBlock) : Type 0 where
-  pub first : (x : ℕ) → (not (is_read_first now x) && none_reads_first true left x) ≡ is_local bs x
+  pub first : (x : ℕ) → not (is_read_first now x || list_any (λ b. block_reads_first b x) left) ≡ is_local bs x
   pub late : (x : ℕ) → (sight_at now x).written_in ≤ i
 
 pub are_seen_step : (bs : List RBlock) (i : ℕ) (b : RBlock) (s t : List Sight) → i < length bs → b ≡ get_or bs i b
     → ((x : ℕ) → is_read_first t x ≡ (is_read_first s x || block_reads_first b x)) → IsUpTo (i + 1) t → AreSeenTo i s (drop i bs) bs
     → AreSeenTo (i + 1) t (drop (i + 1) bs) bs
 are_seen_step bs i b s t lt at one late before = record {
-  first = λ x. grind (arith, one x, before.first x, at_drop_more (λ l. none_reads_first true l x) bs i b lt);
+  first = λ x. grind (arith, one x, before.first x, at_drop_more (list_any (λ b. block_reads_first b x)) bs i b lt);
   late = late;
 }
 

@@ -1,6 +1,6 @@
 -- Copies of slots, in registers that a function without calls has to spare: no pseudo-register lives there, and no function keeps them.
-use Rattle.std.specs.Prelude.{ℕ, Bool, true, false, List, [], ◌∷◌, Option, Some, drop, nat_eq, if◌then◌else◌, slice_get}
-use Rattle.std.specs.List.{list_any, list_all}
+use Rattle.std.specs.Prelude.{ℕ, Bool, true, false, List, [], ◌∷◌, Option, Some, drop, nat_eq, not, if◌then◌else◌, slice_get}
+use Rattle.std.specs.List.{list_any, list_all, filter}
 use Rattle.rtl.specs.declared.instruction.RExit.{RExit}
 use Rattle.rtl.specs.declared.instruction.RExit.TheVariants.{Call}
 use Rattle.rtl.specs.declared.block.RBlock.{RBlock}
@@ -30,8 +30,7 @@ is_leaf bs = list_all (λ (b : RBlock). calls_none b.exit) bs
 
 -- those of some registers in which no pseudo-register lives
 abbrev pub unused : List Home → List ℕ → List ℕ
-unused hs [] = []
-unused hs (r ∷ rs) = if lives_in hs r then unused hs rs else r ∷ unused hs rs
+unused hs rs = filter (λ r. not (lives_in hs r)) rs
 
 -- a slot gets a copy where there is a register for it
 abbrev pub with_copy : Home → (register : Option ℕ) → Home

@@ -1,6 +1,7 @@
 -- Where pseudo-registers are put: at their homes, or, if they are local to blocks, in registers that no function keeps.
-use Rattle.std.specs.Prelude.{◌≡◌, ℕ, suc, Bool, List, [], ◌∷◌, ◌++◌, Option, None, Some, if◌then◌else◌}
-use Rattle.std.specs.List.{list_any, filter}
+use Rattle.std.specs.Prelude.{◌≡◌, ℕ, suc, Bool, List, [], ◌∷◌, ◌++◌, Option, None, Some, not, if◌then◌else◌}
+use Rattle.std.specs.List.{list_any, filter, find}
+use Rattle.std.specs.Option.{option_map_or}
 use Rattle.rtl.specs.Names.{optional}
 use Rattle.rtl.specs.declared.block.RBlock.{RBlock}
 use Rattle.rtl.specs.declared.block.RFunc.{RFunc}
@@ -18,16 +19,14 @@ use Rattle.mips_homes.specs.declared.homed.Homed.{Homed}
 
 -- the first of these registers that isn't taken
 abbrev pub first_free : (taken : List ℕ) → List ℕ → Option ℕ
-first_free taken [] = None
-first_free taken (r ∷ rs) = if is_in taken r then first_free taken rs else Some r
+first_free taken rs = find (λ r. not (is_in taken r)) rs
 
 -- the register of its preferred register if that isn't taken, else the first free temporary
 abbrev pub free_register : (taken : List ℕ) → (preference : Option ℕ) → Option ℕ
 free_register taken preference = first_free taken (optional preference ++ temporaries)
 
 abbrev pub home_or : Option ℕ → Home → Home
-home_or None h = h
-home_or (Some r) h = Reg r
+home_or register h = option_map_or Reg register h
 
 abbrev pub also : List ℕ → Option ℕ → List ℕ
 also taken None = taken

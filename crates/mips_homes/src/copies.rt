@@ -1,7 +1,6 @@
 //! Copies of slots, in registers that a function without calls has to spare.
 
 ghost use Rattle.std.specs.Prelude.{◌≡◌, ℕ, ◌<◌, Some, slice_get, IfOk};
-ghost use Rattle.mips_homes.specs.Convention.{temporaries};
 ghost use Rattle.mips_homes.specs.Copies.{calls_none, is_leaf, is_slot, unused, with_copy, copied_onto, copied};
 
 use crate::convention::{TEMPORARIES, register};
@@ -29,20 +28,11 @@ pub fn is_leaf(blocks: &[RBlock]) -> bool
 fn unused(alloc: Global, homes: &[Home], registers: &[u8]) -> Result<Vec<u8>, AllocError>
     ensures { IfOk result (λ rs. rs.items ≡ unused homes.now registers.now) }
 {
-    let mut free = Vec::new(alloc);
-    for r in registers {
-        if !lives_in(homes, *r) {
-            free.push(*r)?;
-        }
-    }
-    Ok(free)
-}
-
-/// Returns the temporaries in which no pseudo-register lives.
-fn unused_temporaries(alloc: Global, homes: &[Home]) -> Result<Vec<u8>, AllocError>
-    ensures { IfOk result (λ rs. rs.items ≡ unused homes.now temporaries) }
-{
-    unused(alloc, homes, &TEMPORARIES)
+    registers
+        .iter()
+        .copied()
+        .filter(|r| !lives_in(homes, *r))
+        .collect(alloc)
 }
 
 /// Returns a register of a list.
@@ -50,8 +40,7 @@ fn register_at(registers: &[u8], n: usize) -> Option<NonzeroReg>
     requires { (j r : ℕ) → slice_get registers.now j ≡ Some r → (0 < r) × (r < 32) }
     ensures { result ≡ slice_get registers.now n }
 {
-    let r = registers.get(n)?;
-    Some(register(*r))
+    registers.get(n).copied().map(register)
 }
 
 /// Returns a home, with a copy in a register if it is a slot.
@@ -91,6 +80,6 @@ pub(crate) fn copied(
     if !is_leaf(blocks) {
         return Ok(homes);
     }
-    let free = unused_temporaries(alloc, homes.as_slice())?;
+    let free = unused(alloc, homes.as_slice(), &TEMPORARIES)?;
     copied_onto(alloc, homes.as_slice(), free.as_slice())
 }

@@ -1,10 +1,11 @@
 //! Which pseudo-registers are local to blocks.
 
-ghost use Rattle.std.specs.Prelude.{◌≡◌, ◌<◌, ◌||◌, ◌∷◌, [], ℕ, not, length, if◌then◌else◌, IfOk, OnOk};
+ghost use Rattle.std.specs.Prelude.{◌≡◌, ◌<◌, ◌||◌, ◌∷◌, [], ℕ, not, if◌then◌else◌, IfOk, OnOk};
 ghost use Rattle.mips_homes.specs.HomedRun.{is_in};
 ghost use Rattle.mips_homes.specs.Locals.{inst_reads, inst_writes, exit_reads, block_reads_first, goes_to, some_go_to, is_local};
 ghost use Rattle.mips_homes.specs.Walks.{sight_at, is_read_first, IsUpTo, Sees};
 
+use crate::counts::make_room;
 use rtl::{RBlock, RExit, RInst, Register};
 use std::alloc::{AllocError, Global};
 
@@ -39,30 +40,14 @@ fn exit_goes_to(exit: &RExit, b: u32) -> bool
 fn some_go_to(blocks: &[RBlock], b: u32) -> bool
     ensures { result ≡ some_go_to blocks.now b }
 {
-    for block in blocks {
-        if exit_goes_to(&block.exit, b) {
-            return true;
-        }
-    }
-    false
-}
-
-/// Makes room for what is seen of x.
-fn make_room(sights: &mut Vec<Sight>, x: Register) -> Result<(), AllocError>
-    ensures same { OnOk result ((y : ℕ) → sight_at sights.new.items y ≡ sight_at sights.old.items y) }
-    ensures room { OnOk result (x < length sights.new.items) }
-{
-    while sights.len() <= x as usize {
-        sights.push(NOTHING)?;
-    }
-    Ok(())
+    blocks.iter().any(|block| exit_goes_to(&block.exit, b))
 }
 
 /// Records that block k reads x.
 fn see_read(sights: &mut Vec<Sight>, k: usize, x: Register) -> Result<(), AllocError>
     ensures { OnOk result (Sees k sights.old.items sights.new.items (x ∷ []) []) }
 {
-    make_room(sights, x)?;
+    make_room(sights, x, NOTHING)?;
     if sights[x as usize].written_in != k {
         sights[x as usize].read_first = true;
     }
@@ -73,7 +58,7 @@ fn see_read(sights: &mut Vec<Sight>, k: usize, x: Register) -> Result<(), AllocE
 fn see_write(sights: &mut Vec<Sight>, k: usize, x: Register) -> Result<(), AllocError>
     ensures { OnOk result (Sees k sights.old.items sights.new.items [] (x ∷ [])) }
 {
-    make_room(sights, x)?;
+    make_room(sights, x, NOTHING)?;
     sights[x as usize].written_in = k;
     Ok(())
 }

@@ -24,24 +24,14 @@ use std::alloc::{AllocError, Global};
 fn is_taken(taken: &[u8], r: u8) -> bool
     ensures { result ≡ is_in taken.now r }
 {
-    for q in taken {
-        if r == *q {
-            return true;
-        }
-    }
-    false
+    taken.iter().any(|q| r == *q)
 }
 
 /// Returns the first of these registers that isn't taken.
 fn first_free(taken: &[u8], registers: &[u8]) -> Option<u8>
     ensures { result ≡ first_free taken.now registers.now }
 {
-    for r in registers {
-        if !is_taken(taken, *r) {
-            return Some(*r);
-        }
-    }
-    None
+    registers.iter().copied().find(|r| !is_taken(taken, *r))
 }
 
 /// Returns the register of a preference if that isn't taken, else the first free temporary.

@@ -15,7 +15,7 @@ fn raise(reaches: &mut Vec<u64>, x: Register, arguments: u64) -> Result<(), Allo
     ensures { OnOk result ((y : ℕ)
         → slice_index reaches.new.items y ≡ max (slice_index reaches.old.items y) (if nat_eq y x then arguments else 0)) }
 {
-    make_room(reaches, x)?;
+    make_room(reaches, x, 0)?;
     if reaches[x as usize] < arguments {
         reaches[x as usize] = arguments;
     }

@@ -2,7 +2,8 @@
 use Rattle.std.proofs.Common.{◌≡◌, ℕ, zero, suc, ◌+◌, ◌<◌, ◌≤◌, ◌⊎◌, inl, inr, Bool, true, false, List, [], ◌∷◌, ◌++◌, Option, Some, None}
 use Rattle.std.proofs.Common.{length, refl, ap, subst, sym, ◌∙◌, append_assoc, arith}
 use Rattle.std.specs.Prelude.{All, slice_get, sum_by, if◌then◌else◌}
-use Rattle.std.proofs.lemmas.Option.{same_Some, none-some, slice_get_past}
+use Rattle.std.proofs.lemmas.Option.{same_Some, none-some, slice_get_past, slice_get_within, get_or_from_slice_get}
+use Rattle.std.proofs.lemmas.List.Folds.{list_any_at}
 use Rattle.std.proofs.lemmas.List.Elements.{All-nil, All-cons, All-head, All-tail, All-append}
 use Rattle.std.proofs.lemmas.List.Sums.{sum_by-cons}
 use Rattle.runs.proofs.Words.{at-index}
@@ -159,14 +160,9 @@ kept_length keeps n _ _ h = absurd h
 -- an exit of one of these blocks leads to what is reached
 pub goes_block : (bs : List RBlock) (b : ℕ) (block : RBlock) → slice_get bs b ≡ Some block → (t : ℕ) → is_in (goes_to block.exit) t ≡ true
     → some_go_to bs t ≡ true
-goes_block [] b block e t go = absurd (none-some block e)
-goes_block (k ∷ bs) zero block e t go =
-    ap (λ c. if c then true else some_go_to bs t) (ap (λ (x : RBlock). is_in (goes_to x.exit) t) (same_Some k block e) ∙ go)
-goes_block (k ∷ bs) (suc b) block e t go = either (is_in (goes_to k.exit) t) (goes_block bs b block e t go)
-  where
-    either : (c : Bool) → some_go_to bs t ≡ true → (if c then true else some_go_to bs t) ≡ true
-    either true rest = refl
-    either false rest = rest
+goes_block bs b block e t go =
+    list_any_at (λ (k : RBlock). is_in (goes_to k.exit) t) bs b block (slice_get_within bs b block e)
+    (ap (λ (k : RBlock). is_in (goes_to k.exit) t) (get_or_from_slice_get bs b block block e) ∙ go)
 
 -- all blocks that an exit goes to are reached
 abbrev pub Leads : List RBlock → RExit → Type 0

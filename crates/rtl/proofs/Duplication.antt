@@ -1,7 +1,8 @@
 -- What comes of programs whose blocks have their tails.
-use Rattle.std.proofs.Common.{◌≡◌, ℕ, suc, ◌+◌, ◌<◌, ◌≤◌, List, [], ◌∷◌, ◌++◌, length, take, get_or, refl, ap, sym, ◌∙◌, arith}
-use Rattle.std.specs.Prelude.{Bool, true, false, ◌||◌, if◌then◌else◌}
+use Rattle.std.proofs.Common.{◌≡◌, ℕ, suc, ◌+◌, ◌<◌, ◌≤◌, List, [], ◌∷◌, ◌++◌, length, take, get_or, ap, ◌∙◌, arith}
+use Rattle.std.specs.Prelude.{Bool, false}
 use Rattle.std.proofs.lemmas.List.{length-take}
+use Rattle.std.proofs.lemmas.List.Folds.{list_any_more}
 use Rattle.std.proofs.Math.Seq.{take-suc}
 use Rattle.rtl.specs.declared.instruction.RInst.{RInst}
 use Rattle.rtl.specs.declared.instruction.RInst.TheVariants.{Const}
@@ -40,31 +41,12 @@ operations_so_far xs i = let few = operations_few (take i xs) in let long = leng
 
 -- ---- blocks that some exit goes to
 
-go_to_push : (bs : List RBlock) (b : RBlock) (x : ℕ) → some_go_to (bs ++ b ∷ []) x ≡ (some_go_to bs x || is_in (goes_to b.exit) x)
-go_to_push [] b x = by (is_in (goes_to b.exit) x)
-  where
-    by : (c : Bool) → (if c then true else false) ≡ c
-    by true = refl
-    by false = refl
-go_to_push (a ∷ bs) b x = by (is_in (goes_to a.exit) x) (go_to_push bs b x)
-  where
-    by : (c : Bool) → some_go_to (bs ++ b ∷ []) x ≡ (some_go_to bs x || is_in (goes_to b.exit) x)
-        → (if c then true else some_go_to (bs ++ b ∷ []) x) ≡ ((if c then true else some_go_to bs x) || is_in (goes_to b.exit) x)
-    by true rest = refl
-    by false rest = rest
-
 -- one block more
 pub marked_next : (bs : List RBlock) (old new : List Bool) (i : ℕ) (b d : RBlock) → i < length bs → b ≡ get_or bs i d
     → ((length old ≡ length bs) × ((x : ℕ) → x < length bs → get_or old x false ≡ some_go_to (take i bs) x))
     → Marks (goes_to b.exit) old new
     → (length new ≡ length bs) × ((x : ℕ) → x < length bs → get_or new x false ≡ some_go_to (take (i + 1) bs) x)
-marked_next bs old new i b d lt is was marks =
-    let next : i + 1 ≡ suc i = omega arith in
-    let cut : take (i + 1) bs ≡ take i bs ++ b ∷ [] =
-    ap (λ n. take n bs) next ∙ take-suc bs i d lt ∙ ap (λ b. take i bs ++ b ∷ []) (sym is) in (
-      marks.same_length ∙ was.0,
-      λ x inside. (
-          let same = was.0 in
-          marks.each x (omega (arith, inside, same)) ∙ ap (λ c. c || is_in (goes_to b.exit) x) (was.1 x inside)
-          ∙ sym (go_to_push (take i bs) b x) ∙ ap (λ l. some_go_to l x) (sym cut)),
-    )
+marked_next bs old new i b d lt is was marks = (
+  marks.same_length ∙ was.0,
+  λ x inside. marks.each x (omega (arith, inside, was.0)) ∙ cc (was.1 x inside, list_any_more (λ (k : RBlock). is_in (goes_to k.exit) x) bs i d lt),
+)

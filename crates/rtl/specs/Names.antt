@@ -1,5 +1,6 @@
 -- The pseudo-registers that a function names, and how often.
-use Rattle.std.specs.Prelude.{ℕ, suc, ◌+◌, Bool, true, false, ◌||◌, List, [], ◌∷◌, ◌++◌, Option, Some, None, nat_eq, nat_lt, if◌then◌else◌}
+use Rattle.std.specs.Prelude.{ℕ, suc, ◌+◌, Bool, List, [], ◌∷◌, ◌++◌, Option, Some, None, nat_eq, nat_lt, if◌then◌else◌}
+use Rattle.std.specs.List.{list_any}
 use Rattle.rtl.specs.declared.instruction.RInst.{RInst}
 use Rattle.rtl.specs.declared.instruction.RInst.TheVariants.{Const, Move, Bin, Load, Store}
 use Rattle.rtl.specs.declared.instruction.RExit.{RExit}
@@ -32,8 +33,7 @@ inst_writes (Load d a i) = d ∷ []
 inst_writes (Store a i b) = []
 
 abbrev pub is_in : List ℕ → ℕ → Bool
-is_in [] r = false
-is_in (x ∷ xs) r = nat_eq r x || is_in xs r
+is_in xs r = list_any (λ x. nat_eq r x) xs
 
 -- of a register that may be absent
 abbrev pub optional : Option ℕ → List ℕ
@@ -81,5 +81,4 @@ goes_to (Return o) = []
 goes_to (Out x next) = next ∷ []
 
 abbrev pub some_go_to : List RBlock → ℕ → Bool
-some_go_to [] b = false
-some_go_to (k ∷ ks) b = if is_in (goes_to k.exit) b then true else some_go_to ks b
+some_go_to bs b = list_any (λ (k : RBlock). is_in (goes_to k.exit) b) bs
