@@ -1,7 +1,6 @@
 -- A refuted order doesn't mean its block.
-use Rattle.std.proofs.Common.{◌≡◌, ◌≢◌, ℕ, Option, Some, sym, ap, ◌∙◌}
-use Rattle.std.specs.Prelude.{Result, Ok, IfOk, IfSome}
-use Rattle.std.specs.declared.alloc.AllocError.{AllocError}
+use Rattle.std.proofs.Common.{◌≡◌, ◌≢◌, ℕ, Option, Some, None, sym, ap, ◌∙◌}
+use Rattle.std.specs.Prelude.{IfSome}
 use Rattle.mips_isa.specs.States.{State}
 use Rattle.mblock.specs.Parts.{BlockParts, OrderParts}
 use Rattle.mblock.specs.Orders.{Means}
@@ -30,7 +29,7 @@ pub disagrees : NoRefutingStateAgrees
 disagrees b o s link d h agrees = not_same d h.left _ h.differs (agrees h.left h.runs)
 
 -- what is found refutes, and so the order doesn't mean its block
-pub no_meaning : (b : BlockParts) (o : OrderParts) (s : State) (link : ℕ) (r : Result (Option Difference) AllocError)
-    → IfOk r (λ x. IfSome x (λ d. Refutes b o s link d)) → IfOk r (λ x. IfSome x (λ d. Means b o → ⊥))
-no_meaning b o s link (Ok (Some d)) h = refuted b o s link d h
-no_meaning b o s link _ h = tt
+pub no_meaning : (b : BlockParts) (o : OrderParts) (s : State) (link : ℕ) (r : Option Difference)
+    → IfSome r (λ d. Refutes b o s link d) → IfSome r (λ d. Means b o → ⊥)
+no_meaning b o s link (Some d) h = refuted b o s link d h
+no_meaning b o s link None h = tt

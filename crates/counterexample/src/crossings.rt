@@ -62,15 +62,13 @@ pub(crate) fn crossings(
     order: &Order,
 ) -> Result<Vec<Pair>, AllocError> {
     let insts = block.insts();
-    let mut places = Vec::new(alloc);
-    for (place, inst) in insts.iter().enumerate() {
-        if access_of(&inst.action()).is_some() {
-            places.push(place)?;
-        }
-    }
+    let accesses = insts
+        .iter()
+        .enumerate()
+        .filter(|(_, inst)| access_of(&inst.action()).is_some());
     let mut waiting = Waiting {
         insts,
-        places,
+        places: accesses.map(|(place, _)| place).collect(alloc)?,
         pairs: Vec::new(alloc),
     };
     for inst in order.insts() {

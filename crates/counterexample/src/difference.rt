@@ -30,12 +30,8 @@ fn first_register(a: &Registers, b: &Registers) -> Option<Reg>
     ensures some { IfSome result (λ r. slice_index a.now.regs r ≢ slice_index b.now.regs r) }
     ensures none { IfNone result ((q : ℕ) → q < 32 → slice_index a.now.regs q ≡ slice_index b.now.regs q) }
 {
-    for r in 0..32u8 {
-        if a.regs[r as usize] != b.regs[r as usize] {
-            return Reg::new(r);
-        }
-    }
-    None
+    let number = (0..32).find(|r: &u8| a.regs[*r as usize] != b.regs[*r as usize])?;
+    Reg::new(number)
 }
 
 /// Returns a byte that a store reaches and that differs.
@@ -63,13 +59,7 @@ fn byte_of_stores(a: &Memory, b: &Memory, stores: &[Stored]) -> Option<u32>
     ensures some { IfSome result (λ x. bytes_of a.now x ≢ bytes_of b.now x) }
     ensures none { IfNone result ((s : AStored) → Contains stores.now s → SameReached a.now b.now s) }
 {
-    for stored in stores {
-        let found = byte_of_store(a, b, stored);
-        if found.is_some() {
-            return found;
-        }
-    }
-    None
+    stores.iter().find_map(|stored| byte_of_store(a, b, stored))
 }
 
 /// Returns a byte that differs, of memories that are filled alike.

@@ -68,18 +68,11 @@ fn word_of_kind(kind: u32, base: u32, word: u32) -> u32 {
 
 /// Returns a base near which addresses meet: that of the data, or a word that the block itself puts into a register's upper half.
 fn base_of(block: &Block, number: u32) -> u32 {
-    let mut base = 0x1000_0000;
-    let mut left = number;
-    for inst in block.insts() {
-        if let Action::Sets { d: _, word } = inst.action() {
-            if left == 0 {
-                return base;
-            }
-            left -= 1;
-            base = word;
-        }
-    }
-    base
+    let words = block.insts().iter().filter_map(|inst| match inst.action() {
+        Action::Sets { d: _, word } => Some(word),
+        _ => None,
+    });
+    words.take(number as usize).last().unwrap_or(0x1000_0000)
 }
 
 fn start_of_kind(kind: u32, base: u32, seed: u32) -> Start {
@@ -175,16 +168,17 @@ fn start_number(
 /// Returns how many starts are tried for a block: fewer for a long one, and for one with many accesses. A byte of memory takes as long as
 /// there are stores.
 fn starts_for(block: &Block) -> u32 {
-    let mut insts: u32 = 1;
-    let mut accesses: u32 = 0;
-    for inst in block.insts() {
-        insts = insts.saturating_add(1);
-        if access_of(&inst.action()).is_some() {
-            accesses = accesses.saturating_add(1);
-        }
-    }
-    let work = insts.saturating_add(accesses.saturating_mul(accesses) / 64);
-    (0x2000 / work.max(1)).max(8).min(STARTS)
+    let insts = block.insts();
+    let accesses = insts
+        .iter()
+        .filter(|inst| access_of(&inst.action()).is_some())
+        .count();
+    let work = insts
+        .len()
+        .saturating_add(accesses.saturating_mul(accesses) / 64);
+    (0x2000 / work.saturating_add(1))
+        .max(8)
+        .min(STARTS as usize) as u32
 }
 
 /// Returns a start of a fixed list that refutes that the order means the block; None if none of them does. The list has starts in which two

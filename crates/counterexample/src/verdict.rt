@@ -11,27 +11,6 @@ use crate::start::{Start, has_words};
 use mblock::{Block, Order};
 use std::alloc::{AllocError, Global};
 
-/// Returns what an order does otherwise than its block, from a start.
-fn tried(
-    alloc: Global,
-    block: &Block,
-    order: &Order,
-    start: &Start,
-    link: u32,
-) -> Result<Option<Difference>, AllocError>
-    ensures refutes { IfOk result (λ r. IfSome r (λ d. Refutes block.now order.now (start_of start.now) link d)) }
-    ensures agrees { IfOk result (λ r. IfNone r (Agrees block.now order.now (start_of start.now) link)) }
-{
-    has_words(start);
-    let Some(left) = run_block(alloc, block, start, link)? else {
-        return Ok(None);
-    };
-    match run_order(alloc, order, start, link)? {
-        None => Ok(Some(Difference::Stuck)),
-        Some(ordered) => Ok(difference_of(&left, &ordered)),
-    }
-}
-
 /// Reports whether this start and link refute that the order means the block, and by what. From there the block isn't stuck, and the order
 /// is stuck or leaves another register, HI, LO, byte of memory or exit. None if the block is stuck from there or the order does what the
 /// block does. `Err` only if memory runs out.
@@ -46,7 +25,14 @@ pub fn refute(
     ensures agrees { IfOk result (λ r. IfNone r (Agrees block.now order.now (start_of start.now) link)) }
     ensures means { IfOk result (λ r. IfSome r (λ d. Means block.now order.now → ⊥)) }
 {
-    tried(alloc, block, order, start, link)
+    has_words(start);
+    let Some(left) = run_block(alloc, block, start, link)? else {
+        return Ok(None);
+    };
+    match run_order(alloc, order, start, link)? {
+        None => Ok(Some(Difference::Stuck)),
+        Some(ordered) => Ok(difference_of(&left, &ordered)),
+    }
 }
 
 /// States that an order that some state refutes doesn't mean its block. A law: it computes nothing.
