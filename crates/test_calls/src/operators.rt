@@ -2,74 +2,46 @@
 
 use words::Operator;
 
+/// Pairs of words, and the values of operators at each of them.
+type Values = (
+    &'static [(u32, u32)],
+    &'static [(Operator, &'static [Option<u32>])],
+);
+
 #[rattlefmt::skip]
-const VALUES: &[(Operator, u32, u32, Option<u32>)] = &[
-    (Operator::Addu, 0xffffffff, 0x1, Some(0x0)),
-    (Operator::Addu, 0x80000000, 0x21, Some(0x80000021)),
-    (Operator::Addu, 0x7fffffff, 0xffffffff, Some(0x7ffffffe)),
-    (Operator::Subu, 0xffffffff, 0x1, Some(0xfffffffe)),
-    (Operator::Subu, 0x80000000, 0x21, Some(0x7fffffdf)),
-    (Operator::Subu, 0x7fffffff, 0xffffffff, Some(0x80000000)),
-    (Operator::And, 0xffffffff, 0x1, Some(0x1)),
-    (Operator::And, 0x80000000, 0x21, Some(0x0)),
-    (Operator::And, 0x7fffffff, 0xffffffff, Some(0x7fffffff)),
-    (Operator::Or, 0xffffffff, 0x1, Some(0xffffffff)),
-    (Operator::Or, 0x80000000, 0x21, Some(0x80000021)),
-    (Operator::Or, 0x7fffffff, 0xffffffff, Some(0xffffffff)),
-    (Operator::Xor, 0xffffffff, 0x1, Some(0xfffffffe)),
-    (Operator::Xor, 0x80000000, 0x21, Some(0x80000021)),
-    (Operator::Xor, 0x7fffffff, 0xffffffff, Some(0x80000000)),
-    (Operator::Nor, 0xffffffff, 0x1, Some(0x0)),
-    (Operator::Nor, 0x80000000, 0x21, Some(0x7fffffde)),
-    (Operator::Nor, 0x7fffffff, 0xffffffff, Some(0x0)),
-    (Operator::Slt, 0xffffffff, 0x1, Some(0x1)),
-    (Operator::Slt, 0x80000000, 0x21, Some(0x1)),
-    (Operator::Slt, 0x7fffffff, 0xffffffff, Some(0x0)),
-    (Operator::Sltu, 0xffffffff, 0x1, Some(0x0)),
-    (Operator::Sltu, 0x80000000, 0x21, Some(0x0)),
-    (Operator::Sltu, 0x7fffffff, 0xffffffff, Some(0x1)),
-    (Operator::Sll, 0xffffffff, 0x1, Some(0xfffffffe)),
-    (Operator::Sll, 0x80000000, 0x21, Some(0x0)),
-    (Operator::Sll, 0x7fffffff, 0xffffffff, Some(0x80000000)),
-    (Operator::Srl, 0xffffffff, 0x1, Some(0x7fffffff)),
-    (Operator::Srl, 0x80000000, 0x21, Some(0x40000000)),
-    (Operator::Srl, 0x7fffffff, 0xffffffff, Some(0x0)),
-    (Operator::Sra, 0xffffffff, 0x1, Some(0xffffffff)),
-    (Operator::Sra, 0x80000000, 0x21, Some(0xc0000000)),
-    (Operator::Sra, 0x7fffffff, 0xffffffff, Some(0x0)),
-    (Operator::MultHigh, 0xffffffff, 0x1, Some(0xffffffff)),
-    (Operator::MultHigh, 0x80000000, 0x21, Some(0xffffffef)),
-    (Operator::MultHigh, 0x7fffffff, 0xffffffff, Some(0xffffffff)),
-    (Operator::MultLow, 0xffffffff, 0x1, Some(0xffffffff)),
-    (Operator::MultLow, 0x80000000, 0x21, Some(0x80000000)),
-    (Operator::MultLow, 0x7fffffff, 0xffffffff, Some(0x80000001)),
-    (Operator::MultuHigh, 0xffffffff, 0x1, Some(0x0)),
-    (Operator::MultuHigh, 0x80000000, 0x21, Some(0x10)),
-    (Operator::MultuHigh, 0x7fffffff, 0xffffffff, Some(0x7ffffffe)),
-    (Operator::MultuLow, 0xffffffff, 0x1, Some(0xffffffff)),
-    (Operator::MultuLow, 0x80000000, 0x21, Some(0x80000000)),
-    (Operator::MultuLow, 0x7fffffff, 0xffffffff, Some(0x80000001)),
-    (Operator::DivQuotient, 0xfffffff9, 0x2, Some(0xfffffffd)),
-    (Operator::DivRemainder, 0xfffffff9, 0x2, Some(0xffffffff)),
-    (Operator::DivuQuotient, 0xfffffff9, 0x2, Some(0x7ffffffc)),
-    (Operator::DivuRemainder, 0xfffffff9, 0x2, Some(0x1)),
-    (Operator::DivQuotient, 0x7, 0xfffffffe, Some(0xfffffffd)),
-    (Operator::DivRemainder, 0x7, 0xfffffffe, Some(0x1)),
-    (Operator::DivuQuotient, 0x7, 0xfffffffe, Some(0x0)),
-    (Operator::DivuRemainder, 0x7, 0xfffffffe, Some(0x7)),
-    (Operator::DivQuotient, 0x80000000, 0xffffffff, None),
-    (Operator::DivRemainder, 0x80000000, 0xffffffff, None),
-    (Operator::DivuQuotient, 0x80000000, 0xffffffff, Some(0x0)),
-    (Operator::DivuRemainder, 0x80000000, 0xffffffff, Some(0x80000000)),
-    (Operator::DivQuotient, 0x5, 0x0, None),
-    (Operator::DivRemainder, 0x5, 0x0, None),
-    (Operator::DivuQuotient, 0x5, 0x0, None),
-    (Operator::DivuRemainder, 0x5, 0x0, None),
+const VALUES: &[Values] = &[
+    (&[(0xffffffff, 0x1), (0x80000000, 0x21), (0x7fffffff, 0xffffffff)], &[
+        (Operator::Addu, &[Some(0x0), Some(0x80000021), Some(0x7ffffffe)]),
+        (Operator::Subu, &[Some(0xfffffffe), Some(0x7fffffdf), Some(0x80000000)]),
+        (Operator::And, &[Some(0x1), Some(0x0), Some(0x7fffffff)]),
+        (Operator::Or, &[Some(0xffffffff), Some(0x80000021), Some(0xffffffff)]),
+        (Operator::Xor, &[Some(0xfffffffe), Some(0x80000021), Some(0x80000000)]),
+        (Operator::Nor, &[Some(0x0), Some(0x7fffffde), Some(0x0)]),
+        (Operator::Slt, &[Some(0x1), Some(0x1), Some(0x0)]),
+        (Operator::Sltu, &[Some(0x0), Some(0x0), Some(0x1)]),
+        (Operator::Sll, &[Some(0xfffffffe), Some(0x0), Some(0x80000000)]),
+        (Operator::Srl, &[Some(0x7fffffff), Some(0x40000000), Some(0x0)]),
+        (Operator::Sra, &[Some(0xffffffff), Some(0xc0000000), Some(0x0)]),
+        (Operator::MultHigh, &[Some(0xffffffff), Some(0xffffffef), Some(0xffffffff)]),
+        (Operator::MultLow, &[Some(0xffffffff), Some(0x80000000), Some(0x80000001)]),
+        (Operator::MultuHigh, &[Some(0x0), Some(0x10), Some(0x7ffffffe)]),
+        (Operator::MultuLow, &[Some(0xffffffff), Some(0x80000000), Some(0x80000001)]),
+    ]),
+    (&[(0xfffffff9, 0x2), (0x7, 0xfffffffe), (0x80000000, 0xffffffff), (0x5, 0x0)], &[
+        (Operator::DivQuotient, &[Some(0xfffffffd), Some(0xfffffffd), None, None]),
+        (Operator::DivRemainder, &[Some(0xffffffff), Some(0x1), None, None]),
+        (Operator::DivuQuotient, &[Some(0x7ffffffc), Some(0x0), Some(0x0), None]),
+        (Operator::DivuRemainder, &[Some(0x1), Some(0x7), Some(0x80000000), None]),
+    ]),
 ];
 
 #[test]
 fn operators_have_their_values(rt: HostRuntime) {
-    for &(op, a, b, want) in VALUES {
-        assert!(rt; op.value(a, b) == want, "at {op:?} {a} {b}");
+    for &(words, rows) in VALUES {
+        for &(op, values) in rows {
+            for (&(a, b), &want) in words.iter().zip(values) {
+                assert!(rt; op.value(a, b) == want, "at {op:?} {a} {b}");
+            }
+        }
     }
 }
