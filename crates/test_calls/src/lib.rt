@@ -11,18 +11,12 @@
 
 #[cfg(test)]
 mod builds;
-#[cfg(test)]
-mod callers;
 // (specs/Files.antt speaks of it, so it is there without the tests, too)
 mod files;
-#[cfg(test)]
-mod full_tests;
 #[cfg(test)]
 mod homes;
 #[cfg(test)]
 mod hostile_builds;
-#[cfg(test)]
-mod opened;
 #[cfg(test)]
 mod operators;
 #[cfg(test)]
@@ -36,11 +30,9 @@ mod programs;
 #[cfg(test)]
 mod streams;
 #[cfg(test)]
-mod table_tests;
+mod tables;
 #[cfg(test)]
 mod telling;
-#[cfg(test)]
-mod telling_tests;
 #[cfg(test)]
 mod units;
 #[cfg(test)]

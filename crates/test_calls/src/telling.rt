@@ -5,13 +5,17 @@ ghost use Rattle.term_table.specs.Passes.{IsOf};
 ghost use Rattle.term_table.specs.Terms.{HasSeenTerm};
 
 use crossbeam_channel::{Receiver, Sender};
+use std::alloc::Global;
 use std::marker::{Brand, Model, PhantomData};
+use std::process::Abort;
 use std::sync::Wait;
+use std::thread;
+use std::thread::Threads;
 use sym_terms::Label;
 use term_table::{Note, Pass, TermTable, Ticket};
 
 /// The table that tickets are of. Nothing runs it: a message's type names it, so that who receives the message knows the table.
-pub trait Home {
+trait Home {
     ghost use Rattle.term_table.specs.Passes.{TableState};
 
     ghost table: { TableState };
@@ -30,7 +34,7 @@ impl Home for Brand {
 
 /// A ticket of the table, and a note that tells of it.
 #[derive(Drop)]
-pub struct Told<H: Home> {
+struct Told<H: Home> {
     ticket: Ticket,
     note: Note,
     home: PhantomData<H>,
@@ -64,7 +68,7 @@ fn tell<H: Home>(table: &TermTable, pass: &mut Pass, ticket: Ticket) -> Told<H>
 }
 
 /// Interns the constants below `count`, and sends the ticket of each.
-pub fn tell_constants<H: Home>(
+fn tell_constants<H: Home>(
     rt: &impl Wait,
     table: &TermTable,
     mut pass: Pass,
@@ -106,7 +110,7 @@ fn is_constant<H: Home>(table: &TermTable, pass: &mut Pass, told: Told<H>, n: u3
 }
 
 /// Reports whether the constants below `count` come, each in its turn.
-pub fn hear_constants<H: Home>(
+fn hear_constants<H: Home>(
     rt: &impl Wait,
     table: &TermTable,
     mut pass: Pass,
@@ -127,4 +131,34 @@ pub fn hear_constants<H: Home>(
         }
     }
     (pass, all)
+}
+
+/// Reports whether a thousand tickets come, which one thread sends while the other reads them.
+fn relay<H: Home + Send>(
+    rt: &(impl Abort + Threads + Wait + Sync),
+    alloc: Global,
+    table: &TermTable,
+    first: Pass,
+    second: Pass,
+) -> bool
+    requires home { table.now ≡ H.table }
+    requires first { IsOf table.now first }
+    requires second { IsOf table.now second }
+{
+    let (to, from) = crossbeam_channel::bounded::<Told<H>, Global>(alloc, 16).expect(
+        rt,
+        "a channel",
+    );
+    let (first, (second, all)) = thread::join(
+        rt,
+        move || tell_constants::<H>(rt, table, first, 1000, to),
+        move || hear_constants::<H>(rt, table, second, 1000, from),
+    );
+    all && first.linked() == 1000 && second.linked() == 0
+}
+
+#[test]
+fn a_thousand_tickets_are_told(rt: HostRuntime) {
+    let (table, first, second) = TermTable::open_two(rt.alloc(), 1000, 64).expect(&rt, "a table");
+    assert!(rt; relay::<Brand>(&rt, rt.alloc(), &table, first, second));
 }
