@@ -4,8 +4,8 @@ use image::{Counts, NO_COUNTS};
 use list_scheduler::{Hostile, ListOrder, Reorder};
 use mblock::{Block, BlockNumber, Exit, Unit};
 use mips_isa::{Plain, Reg};
-use sched_phase::{PhaseOpts, Scheduled, schedule_all, schedule_one};
-use std::alloc::{AllocError, Global};
+use sched_phase::{PhaseOpts, schedule_all, schedule_one};
+use std::alloc::Global;
 use std::sync::Wait;
 use std::thread::Threads;
 use steal_pool::{Gate, Open};
@@ -33,93 +33,57 @@ fn three(alloc: Global) -> Option<Unit> {
     Unit::new(blocks, owner, Vec::new(alloc))
 }
 
-// How many workers a phase has, and its nodes and heads.
+/// How many workers a phase has, and its nodes and heads.
 type Sizes = (u64, u64, u64);
 
-/// Returns the options of these sizes; None if there are none such.
-fn options_of((workers, nodes, heads): Sizes) -> Option<PhaseOpts> {
-    PhaseOpts::new(workers, nodes, heads)
-}
-
-/// Returns what is counted, and how many orders there are; None if memory ran out.
-fn counts_of(scheduled: Result<Scheduled<'_>, AllocError>) -> Option<(Counts, usize)> {
-    let scheduled = scheduled.ok()?;
-    Some((scheduled.report(), scheduled.orders().len()))
-}
-
-/// Returns the same of a phase by workers.
+/// Returns what is counted in a phase by workers; None if memory ran out.
 fn counted_by_workers<T: Threads + Wait + Sync, R: Reorder + Sync, G: Gate + Sync>(
     threads: &T,
     alloc: Global,
-    sizes: Sizes,
+    (workers, nodes, heads): Sizes,
     reorder: &R,
     gate: &G,
-) -> Option<(Counts, usize)> {
-    let options = options_of(sizes)?;
+) -> Option<Counts> {
+    let options = PhaseOpts::new(workers, nodes, heads)?;
     let unit = three(alloc)?;
-    counts_of(schedule_all(threads, alloc, &unit, options, reorder, gate))
+    let scheduled = schedule_all(threads, alloc, &unit, options, reorder, gate).ok()?;
+    Some(scheduled.report())
 }
 
-const SAME: Counts = Counts {
-    same: 3,
-    ..NO_COUNTS
-};
+/// Returns the same by one worker without threads.
+fn counted<R: Reorder>(
+    alloc: Global,
+    (workers, nodes, heads): Sizes,
+    reorder: &R,
+) -> Option<Counts> {
+    let options = PhaseOpts::new(workers, nodes, heads)?;
+    let unit = three(alloc)?;
+    let scheduled = schedule_one(alloc, &unit, options, reorder).ok()?;
+    Some(scheduled.report())
+}
+
+#[rattlefmt::skip]
+const SAME: Counts = Counts { same: 3, ..NO_COUNTS };
+
+#[rattlefmt::skip]
+const FULL: Counts = Counts { same: 2, full: 1, ..NO_COUNTS };
+
+#[rattlefmt::skip]
+const SILENT: Counts = Counts { no_memory: 3, ..NO_COUNTS };
 
 #[test]
 fn two_workers_share_one_table(rt: HostRuntime) {
     let gate = Meeting::between(1, 2);
     let counted = counted_by_workers(&rt, rt.alloc(), (2, 40, 1), &ListOrder, &gate);
-    assert!(rt; !gate.is_late() && counted == Some((SAME, 3)));
+    assert!(rt; !gate.is_late() && counted == Some(SAME));
 }
-
-/// Returns the same of a phase by one worker without threads.
-fn counted<R: Reorder>(alloc: Global, sizes: Sizes, reorder: &R) -> Option<(Counts, usize)> {
-    let options = options_of(sizes)?;
-    let unit = three(alloc)?;
-    counts_of(schedule_one(alloc, &unit, options, reorder))
-}
-
-const FULL: Counts = Counts {
-    same: 2,
-    full: 1,
-    ..NO_COUNTS
-};
-
-const SILENT: Counts = Counts {
-    no_memory: 3,
-    ..NO_COUNTS
-};
 
 #[test]
 fn each_block_is_counted_once(rt: HostRuntime) {
-    let small = counted(rt.alloc(), (64, 40, 1), &ListOrder);
-    let large = counted(rt.alloc(), (1, 65536, 1024), &ListOrder);
-    let silent = counted(rt.alloc(), (1, 65536, 1024), &Hostile::Silent);
-    assert!(rt;
-        small == Some((FULL, 3)) && large == Some((SAME, 3)) && silent == Some((SILENT, 3))
-    );
-}
-
-#[test]
-fn silent_phases_have_plain_orders(rt: HostRuntime) {
-    let counted = counted_by_workers(&rt, rt.alloc(), (64, 40, 1), &Hostile::Silent, &Open);
-    assert!(rt; counted == Some((SILENT, 3)));
-}
-
-// Sizes of phases, and whether there are such.
-const SIZES: &[(Sizes, bool)] = &[
-    ((64, 1048576, 65536), true),
-    ((0, 1, 1), false),
-    ((65, 1, 1), false),
-    ((1, 0, 1), false),
-    ((1, 1048577, 1), false),
-    ((1, 1, 0), false),
-    ((1, 1, 65537), false),
-];
-
-#[test]
-fn options_have_their_ranges(rt: HostRuntime) {
-    for &(sizes, want) in SIZES {
-        assert!(rt; options_of(sizes).is_some() == want);
-    }
+    let alloc = rt.alloc();
+    assert!(rt; counted(alloc, (64, 40, 1), &ListOrder) == Some(FULL));
+    assert!(rt; counted(alloc, (1, 65536, 1024), &ListOrder) == Some(SAME));
+    assert!(rt; counted(alloc, (1, 65536, 1024), &Hostile::Silent) == Some(SILENT));
+    let by_workers = counted_by_workers(&rt, alloc, (64, 40, 1), &Hostile::Silent, &Open);
+    assert!(rt; by_workers == Some(SILENT));
 }

@@ -3,11 +3,12 @@ ghost use Rattle.std.specs.Prelude.{◌≡◌, ◌*◌, ◌%◌, ◌^◌};
 ghost use Rattle.term_table.specs.Passes.{IsOf};
 
 use std::alloc::Global;
+use std::process::Abort;
 use std::sync::Wait;
 use std::sync::atomic::{AtomicBool, AtomicU64, Ordering};
 use std::thread;
 use std::thread::Threads;
-use steal_pool::{Gate, Job, Open, run};
+use steal_pool::{Gate, Job, run};
 use sym_terms::Label;
 use term_table::{Pass, TermTable};
 
@@ -95,55 +96,26 @@ impl Gate for Count {
     }
 }
 
-/// Reports whether each of n tasks has twice its number.
-fn are_twice(all: &[Option<u64>], n: usize) -> bool {
-    let mut same = all.len() == n;
-    for (i, out) in all.iter().enumerate() {
-        same = same && *out == Some(2 * i as u64);
-    }
-    same
-}
-
-/// Reports whether each of n tasks by so many workers has twice its number; None if memory runs out.
-fn are_done<G: Gate + Sync, R: Threads + Wait + Sync>(
+/// Reports whether so many workers answer n tasks.
+fn are_done<R: Abort + Threads + Wait + Sync, G: Gate + Sync>(
     rt: &R,
     alloc: Global,
     workers: u64,
     n: usize,
     gate: &G,
-) -> Option<bool> {
-    let Ok((table, passes)) = TermTable::open(alloc, workers, 128, 64) else {
-        return None;
-    };
+) -> bool {
+    let (table, passes) = TermTable::open(alloc, workers, 128, 64).expect(rt, "a table");
     let all = run(rt, alloc, n, passes, &Twice { table }, gate);
-    Some(are_twice(all.as_slice(), n))
-}
-
-/// Reports whether two workers do n tasks, of which the first and another wait for each other.
-fn meets<R: Threads + Wait + Sync>(rt: &R, alloc: Global, other: usize, n: usize) -> Option<bool> {
-    let gate = Meeting::between(0, other);
-    let are_done = are_done(rt, alloc, 2, n, &gate)?;
-    Some(are_done && !gate.is_late())
+    all.len() == n && !all.contains(&None)
 }
 
 /// Of two tasks that wait for each other, one has to be done while the other waits. Of three, the third is stolen from a worker that waits.
 #[test]
 fn tasks_that_meet_are_done_at_once(rt: HostRuntime) {
     for &(other, n) in [(1, 2), (2, 3)].as_slice() {
-        let meets = meets(&rt, rt.alloc(), other, n);
-        assert!(rt; meets == Some(true), "of {n} tasks");
-    }
-}
-
-/// Returns how many of n tasks begin by so many workers; None if one has another answer.
-fn begun<R: Threads + Wait + Sync>(rt: &R, alloc: Global, workers: u64, n: usize) -> Option<u64> {
-    let gate = Count {
-        begun: AtomicU64::new(0),
-    };
-    if are_done(rt, alloc, workers, n, &gate)? {
-        Some(gate.begun.load(Ordering::SeqCst))
-    } else {
-        None
+        let gate = Meeting::between(0, other);
+        let are_done = are_done(&rt, rt.alloc(), 2, n, &gate);
+        assert!(rt; are_done && !gate.is_late(), "of {n} tasks");
     }
 }
 
@@ -153,7 +125,13 @@ const POOLS: &[(u64, usize)] = &[(1, 100), (3, 100), (64, 100), (2, 0)];
 #[test]
 fn each_task_is_done_once(rt: HostRuntime) {
     for &(workers, n) in POOLS {
-        let begun = begun(&rt, rt.alloc(), workers, n);
-        assert!(rt; begun == Some(n as u64), "with {workers} workers");
+        let gate = Count {
+            begun: AtomicU64::new(0),
+        };
+        let are_done = are_done(&rt, rt.alloc(), workers, n, &gate);
+        assert!(rt;
+            are_done && gate.begun.load(Ordering::SeqCst) == n as u64,
+            "with {workers} workers"
+        );
     }
 }
