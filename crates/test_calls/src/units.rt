@@ -2,9 +2,9 @@
 //! texts are objdump's, with registers by number.
 
 use block_text::{exit_of, plain_of};
-use image::{Counts, Image, NO_COUNTS, read_image, write_image};
+use image::{Counts, Image, read_image, write_image};
 use mblock::{Block, BlockNumber, Unit, plain_orders};
-use mips_asm::{AsmFault, assemble, image_of};
+use mips_asm::{assemble, image_of};
 use mips_code::Ending;
 use mips_machine::run;
 use sched_phase::schedule_plain;
@@ -36,87 +36,15 @@ fn unit(alloc: Global, parts: &[Lines<'_>], owners: &[u32], data: &[u8]) -> Opti
     Unit::new(blocks, owner, Vec::from_slice(alloc, data).ok()?)
 }
 
-const ON: Lines<'static> = &["goto 1"];
-
-const AGAIN: Lines<'static> = &["goto 0"];
-
-const BRANCH: Lines<'static> = &["beq $0,$0,1,0"];
-
-const HALT: Lines<'static> = &["halt"];
-
-// Empty blocks and their owners, and whether they are a unit.
-const UNITS: &[(&[Lines<'static>], &[u32], bool)] = &[
-    (&[], &[], false),
-    (&[ON], &[0], false),
-    (&[AGAIN], &[0], true),
-    (&[HALT], &[], false),
-    (&[HALT], &[1], false),
-    (&[BRANCH, HALT], &[0, 0], true),
-    (&[BRANCH, HALT], &[0, 1], false),
-    (&[ON, HALT], &[0, 1], true),
-    (&[HALT, HALT, HALT], &[0, 1, 0], false),
-];
-
-#[test]
-fn units_are_refused_for_each_reason(rt: HostRuntime) {
-    for (k, &(blocks, owners, want)) in UNITS.iter().enumerate() {
-        let is_unit = unit(rt.alloc(), blocks, owners, &[]).is_some();
-        assert!(rt; is_unit == want, "row {k}");
-    }
-}
-
-/// Returns the image of version 1 of a unit's plain orders; None if it can have none.
-fn first_version(alloc: Global, unit: &Unit) -> Option<Result<Image, AsmFault>> {
-    if unit.globals().len() % 4 != 0 {
-        return None;
-    }
-    let Ok(orders) = plain_orders(alloc, unit) else {
-        return None;
-    };
-    Some(image_of(alloc, unit, orders.as_slice(), None))
-}
-
-/// Returns the image of version 2, with no block counted.
-fn second_version(alloc: Global, unit: &Unit) -> Option<Image> {
-    let Ok(orders) = plain_orders(alloc, unit) else {
-        return None;
-    };
-    image_of(alloc, unit, orders.as_slice(), Some(NO_COUNTS)).ok()
-}
-
-/// Returns the same with blocks of each count.
-fn counted_version(alloc: Global, unit: &Unit) -> Option<Image> {
-    let Ok(orders) = plain_orders(alloc, unit) else {
-        return None;
-    };
-    let counts = Counts {
-        same: 6,
-        unclean: 5,
-        differs: 4,
-        full: 3,
-        no_memory: 2,
-        missed: 1,
-    };
-    image_of(alloc, unit, orders.as_slice(), Some(counts)).ok()
-}
-
-// Which image a unit becomes.
-#[derive(Clone, Copy)]
-enum Version {
-    First,
-    Second,
-    Counted,
-}
-
-// A unit, its version, and the words of head and code.
+/// A unit, and the words of head and code of its image: of version 1, or of version 2 with COUNTS.
 struct Row {
     blocks: &'static [Lines<'static>],
     owners: &'static [u32],
     data: &'static [u8],
-    version: Version,
+    is_counted: bool,
     head: &'static [u32],
     code: &'static [u32],
-    // how many words it runs, what it ends with and what it prints
+    /// How many words it runs, what it ends with and what it prints.
     steps: u64,
     end: u32,
     output: &'static [u32],
@@ -135,47 +63,29 @@ const PROGRAM: &[Lines<'static>] = &[
 
 const OWNERS: &[u32] = &[0, 0, 0, 3, 3, 3];
 
+#[rattlefmt::skip]
 const WORDS: &[u32] = &[
-    0x3c08_1000,
-    0x8d04_0004,
-    0,
-    0x0c10_000e,
-    0,
-    0x0810_0007,
-    0,
-    0x2402_0001,
-    0x0000_000c,
-    0x0810_000b,
-    0,
-    0x2404_0003,
-    0x2402_000a,
-    0x0000_000c,
-    0x2484_0001,
-    0x1c80_0003,
-    0,
-    0x0810_0016,
-    0,
-    0x0004_2040,
-    0x03e0_0008,
-    0,
-    0x03e0_0008,
-    0,
+    0x3c08_1000, 0x8d04_0004, 0, 0x0c10_000e, 0, 0x0810_0007, 0, 0x2402_0001, 0x0000_000c, 0x0810_000b, 0, 0x2404_0003, 0x2402_000a,
+    0x0000_000c, 0x2484_0001, 0x1c80_0003, 0, 0x0810_0016, 0, 0x0004_2040, 0x03e0_0008, 0, 0x03e0_0008, 0,
 ];
 
 #[rattlefmt::skip]
+const COUNTS: Counts = Counts { same: 6, unclean: 5, differs: 4, full: 3, no_memory: 2, missed: 1 };
+
+#[rattlefmt::skip]
 const ROWS: &[Row] = &[
-    Row {blocks: PROGRAM, owners: OWNERS, data: &[0, 0, 0, 7, 0, 0, 0, 20], version: Version::First,
+    Row {blocks: PROGRAM, owners: OWNERS, data: &[0, 0, 0, 7, 0, 0, 0, 20], is_counted: false,
         head: &[0x4d43_4349, 1, 24, 0x0040_0000, 2], code: WORDS, steps: 20, end: 3, output: &[42]},
-    Row {blocks: PROGRAM, owners: OWNERS, data: &[0, 0, 0, 7, 0, 0, 0, 20, 9], version: Version::Counted,
+    Row {blocks: PROGRAM, owners: OWNERS, data: &[0, 0, 0, 7, 0, 0, 0, 20, 9], is_counted: true,
         head: &[0x4d43_4349, 2, 24, 0x0040_0000, 9, 6, 5, 4, 3, 2, 1], code: WORDS, steps: 20, end: 3, output: &[42]},
     // Adds 1 to a byte of data, writes it before another, and ends with the word that it then stands in. A loaded byte is waited
     // for as a loaded word is.
     Row {blocks: &[&["lui $8,4096", "lbu $4,5($8)", "addiu $4,$4,1", "sb $4,2($8)", "lw $4,0($8)", "halt"]], owners: &[0],
-        data: &[1, 2, 3, 4, 5, 255, 7, 8], version: Version::First, head: &[0x4d43_4349, 1, 9, 0x0040_0000, 2],
+        data: &[1, 2, 3, 4, 5, 255, 7, 8], is_counted: false, head: &[0x4d43_4349, 1, 9, 0x0040_0000, 2],
         code: &[0x3c08_1000, 0x9104_0005, 0, 0x2484_0001, 0xa104_0002, 0x8d04_0000, 0, 0x2402_000a, 0x0000_000c], steps: 9,
         end: 0x0102_0004, output: &[]},
-    Row {blocks: &[&["addiu $4,$0,7", "halt"]], owners: &[0], data: &[], version: Version::Second,
-        head: &[0x4d43_4349, 2, 3, 0x0040_0000, 0, 0, 0, 0, 0, 0, 0], code: &[0x2404_0007, 0x2402_000a, 0x0000_000c], steps: 3, end: 7,
+    Row {blocks: &[&["addiu $4,$0,7", "halt"]], owners: &[0], data: &[], is_counted: true,
+        head: &[0x4d43_4349, 2, 3, 0x0040_0000, 0, 6, 5, 4, 3, 2, 1], code: &[0x2404_0007, 0x2402_000a, 0x0000_000c], steps: 3, end: 7,
         output: &[]},
 ];
 
@@ -199,55 +109,35 @@ fn comes_to(alloc: Global, image: &Image, words: u64, end: Ending, output: &[u32
     }
 }
 
-/// Returns the image of a unit whose blocks are scheduled, each in plain order; None if not each is, or one is counted.
-fn scheduled(alloc: Global, unit: &Unit) -> Option<Image> {
-    let all = schedule_plain(alloc, unit).ok()?;
-    if all.count() == unit.blocks().len() && all.report() == NO_COUNTS {
-        assemble(alloc, &all).ok()
-    } else {
-        None
-    }
-}
-
 /// Reports whether the image is written as the row says and read back, and what is read ends and prints as it should, not before.
 fn is_image(alloc: Global, image: &Image, row: &Row) -> Option<bool> {
     let bytes = bytes_of(alloc, &[row.head, row.code], row.data)?;
     let written = write_image(alloc, image).ok()?;
     let again = read_image(alloc, written.as_slice()).ok()?;
     let ends = comes_to(alloc, &again, row.steps, Ending::Halt(row.end), row.output);
-    let goes_on = comes_to(
-        alloc,
-        &again,
-        row.steps.saturating_sub(1),
-        Ending::More,
-        row.output,
-    );
+    let before = row.steps.saturating_sub(1);
+    let goes_on = comes_to(alloc, &again, before, Ending::More, row.output);
     Some(written.as_slice() == bytes.as_slice() && ends && goes_on)
 }
 
-/// Returns the image of a unit in this version.
-fn image_in(alloc: Global, unit: &Unit, version: Version) -> Option<Image> {
-    match version {
-        Version::First => first_version(alloc, unit)?.ok(),
-        Version::Second => second_version(alloc, unit),
-        Version::Counted => counted_version(alloc, unit),
+/// Returns the image of a unit in plain orders; None if it has none of this version.
+fn plain_image(alloc: Global, unit: &Unit, is_counted: bool) -> Option<Image> {
+    if !is_counted && unit.globals().len() % 4 != 0 {
+        return None;
     }
+    let Ok(orders) = plain_orders(alloc, unit) else {
+        return None;
+    };
+    let counts = if is_counted { Some(COUNTS) } else { None };
+    image_of(alloc, unit, orders.as_slice(), counts).ok()
 }
 
-/// Reports whether the unit has the row's code where it is scheduled; where it counts nothing, also the row's image.
-fn has_code(alloc: Global, unit: &Unit, row: &Row) -> Option<bool> {
-    let image = scheduled(alloc, unit)?;
-    match row.version {
-        Version::First | Version::Counted => Some(image.code() == row.code),
-        Version::Second => is_image(alloc, &image, row),
-    }
-}
-
-/// Reports whether the row's unit becomes its image, and has its code where it is scheduled.
+/// Reports whether the row's unit becomes its image in plain orders, and has the same code where it is scheduled.
 fn becomes(alloc: Global, row: &Row) -> Option<bool> {
     let unit = unit(alloc, row.blocks, row.owners, row.data)?;
-    let image = image_in(alloc, &unit, row.version)?;
-    Some(is_image(alloc, &image, row)? && has_code(alloc, &unit, row)?)
+    let image = plain_image(alloc, &unit, row.is_counted)?;
+    let scheduled = assemble(alloc, &schedule_plain(alloc, &unit).ok()?).ok()?;
+    Some(is_image(alloc, &image, row)? && scheduled.code() == row.code)
 }
 
 #[test]
@@ -255,6 +145,4 @@ fn units_become_images(rt: HostRuntime) {
     for (k, row) in ROWS.iter().enumerate() {
         assert!(rt; becomes(rt.alloc(), row) == Some(true), "row {k}");
     }
-    let half = unit(rt.alloc(), PROGRAM, OWNERS, &[1, 2]).expect(&rt, "a unit");
-    assert!(rt; first_version(rt.alloc(), &half).is_none());
 }
