@@ -1,27 +1,24 @@
 //! The homes of pseudo-registers.
 
+use crate::homes::Ends::{Branch, Call, Goto, Out, Return};
 use crate::homes::Want::{Reg, Slot};
-use crate::programs::Ends::{Branch, Call, Goto, Out, Return};
-use crate::programs::{Function, function, program};
-use mips_homes::{
-    Frame, Home, Homed, each_choice_never_forgets, each_homed_run_is_the_run, frame_of, homes,
-    place,
-};
-use rtl::Op;
+use mips_homes::{Home, Homed, each_choice_never_forgets, each_homed_run_is_the_run, homes, place};
 use rtl::RInst::{Bin, Const, Move};
+use rtl::{Op, RBlock, RExit, RFunc, RInst, Rtl};
 use std::alloc::Global;
 
-// -1 + 1, which is printed, and 1 is returned.
-const WRITES_A_SUM: Function<'static> = (
-    0,
-    &[
-        (
-            &[Const(0, 4_294_967_295), Const(1, 1), Bin(Op::Add, 2, 0, 1)],
-            Out(2, 1),
-        ),
-        (&[], Return(Some(1))),
-    ],
-);
+/// How a block is left: an exit whose arguments are a constant's.
+#[derive(Clone, Copy)]
+enum Ends {
+    Goto(u32),
+    Branch(u32, u32, u32),
+    Call(u32, &'static [u32], Option<u32>, u32),
+    Return(Option<u32>),
+    Out(u32, u32),
+}
+
+/// A function's number of parameters, and the instructions of its blocks, with how each is left.
+type Function = (u32, &'static [(&'static [RInst], Ends)]);
 
 /// A home as it is wanted: a register by its number, or a slot without a copy.
 #[derive(Clone, Copy)]
@@ -30,21 +27,41 @@ enum Want {
     Slot(u32),
 }
 
-// A function, and the homes, the saved registers and the slots of its frame.
-type Row = (Function<'static>, &'static [Want], &'static [u8], u32);
+/// A function, and the homes, the saved registers and the slots of its frame.
+type Row = (Function, &'static [Want], &'static [u8], u32);
 
-// 0 is mentioned twice, 1 three times, 2 twice: more mentions come first, and then lower numbers.
-const SUM: Row = (WRITES_A_SUM, &[Reg(17), Reg(16), Reg(18)], &[16, 17, 18], 0);
+fn exit(alloc: Global, ends: Ends) -> Option<RExit> {
+    Some(match ends {
+        Goto(next) => RExit::Goto(next),
+        Branch(test, then, other) => RExit::Branch(test, then, other),
+        Call(function, arguments, to, next) => {
+            RExit::Call(function, Vec::from_slice(alloc, arguments).ok()?, to, next)
+        }
+        Return(from) => RExit::Return(from),
+        Out(from, next) => RExit::Out(from, next),
+    })
+}
 
-#[rattlefmt::skip]
-const FRAMES: &[Row] = &[
-    SUM,
-    // 0 is a parameter that isn't mentioned, 9 is mentioned three times, 1 to 8 once: all but eight live in slots
-    ((1, &[(&[Bin(Op::Add, 9, 9, 9), Bin(Op::Sub, 1, 2, 3), Bin(Op::Sub, 4, 5, 6), Move(7, 8)], Return(None))]),
-        &[Slot(0), Reg(17), Reg(18), Reg(19), Reg(20), Reg(21), Reg(22), Reg(23), Slot(1), Reg(16)], &[16, 17, 18, 19, 20, 21, 22, 23], 2),
-    // 3 is mentioned twice, 2 once, and 0 and 1 are below the greatest: exits mention registers too
-    ((0, &[(&[], Call(0, &[3, 3], Some(2), 0))]), &[Reg(18), Reg(19), Reg(17), Reg(16)], &[16, 17, 18, 19], 0),
-];
+/// Returns the function of these parts; None of each of these if memory runs out.
+fn function(alloc: Global, (parameters, parts): Function) -> Option<RFunc> {
+    let mut blocks = Vec::new(alloc);
+    for &(insts, ends) in parts {
+        let insts = Vec::from_slice(alloc, insts).ok()?;
+        let exit = exit(alloc, ends)?;
+        blocks.push(RBlock { insts, exit }).ok()?;
+    }
+    Some(RFunc { parameters, blocks })
+}
+
+const NOTHING: Function = (0, &[(&[], Return(None))]);
+
+/// Returns a program of a main function that does nothing, and of this one, which may be called.
+fn program(alloc: Global, parts: Function) -> Option<Rtl> {
+    let mut functions = Vec::new(alloc);
+    functions.push(function(alloc, NOTHING)?).ok()?;
+    functions.push(function(alloc, parts)?).ok()?;
+    Rtl::new(functions, Vec::new(alloc), 0)
+}
 
 fn is_wanted(home: &Home, want: &Want) -> bool {
     match (home, want) {
@@ -62,40 +79,28 @@ fn are_homes(homes: &[Home], wants: &[Want]) -> bool {
             .all(|(home, want)| is_wanted(home, want))
 }
 
-fn is_frame(frame: &Frame, wants: &[Want], saved: &[u8], slots: u32) -> bool {
-    are_homes(frame.homes.as_slice(), wants)
-        && frame.saved.as_slice() == saved
-        && frame.slots == slots
+/// Reports whether the second function has the row's frame.
+fn has_frame(homed: &Homed<'_>, (_, wants, saved, slots): Row) -> Option<bool> {
+    let frame = homed.frames.get(1)?;
+    let is_frame = frame.saved.as_slice() == saved && frame.slots == slots;
+    Some(is_frame && are_homes(frame.homes.as_slice(), wants))
 }
 
-#[test]
-fn frames_are_chosen_by_mentions(rt: HostRuntime) {
-    for (k, &(parts, wants, saved, slots)) in FRAMES.iter().enumerate() {
-        let function = function(rt.alloc(), parts).expect(&rt, "a function");
-        let Ok(frame) = frame_of(rt.alloc(), &function) else {
-            panic!(rt; "no frame")
-        };
-        assert!(rt; is_frame(&frame, wants, saved, slots), "row {k}");
-    }
-}
+// Homes by mentions.
+#[rattlefmt::skip]
+const CHOSEN: &[Row] = &[
+    // -1 + 1, which is printed, and 1 is returned: 0 is mentioned twice, 1 three times, 2 twice. More mentions come first, and then lower
+    // numbers.
+    ((0, &[(&[Const(0, 4_294_967_295), Const(1, 1), Bin(Op::Add, 2, 0, 1)], Out(2, 1)), (&[], Return(Some(1)))]),
+        &[Reg(17), Reg(16), Reg(18)], &[16, 17, 18], 0),
+    // 0 is a parameter that isn't mentioned, 9 is mentioned three times, 1 to 8 once: all but eight live in slots
+    ((1, &[(&[Bin(Op::Add, 9, 9, 9), Bin(Op::Sub, 1, 2, 3), Bin(Op::Sub, 4, 5, 6), Move(7, 8)], Return(None))]),
+        &[Slot(0), Reg(17), Reg(18), Reg(19), Reg(20), Reg(21), Reg(22), Reg(23), Slot(1), Reg(16)], &[16, 17, 18, 19, 20, 21, 22, 23], 2),
+    // 3 is mentioned twice, 2 once, and 0 and 1 are below the greatest: exits mention registers too
+    ((2, &[(&[], Call(1, &[3, 3], Some(2), 0))]), &[Reg(18), Reg(19), Reg(17), Reg(16)], &[16, 17, 18, 19], 0),
+];
 
-/// Reports whether there are so many frames, the last of which is the row's.
-fn ends_with_frame(homed: &Homed<'_>, count: usize, (_, wants, saved, slots): Row) -> bool {
-    match homed.frames.last() {
-        Some(frame) => homed.frames.len() == count && is_frame(frame, wants, saved, slots),
-        None => false,
-    }
-}
-
-#[test]
-fn a_program_has_homes(rt: HostRuntime) {
-    let sum = program(rt.alloc(), &[WRITES_A_SUM]).expect(&rt, "a program");
-    let homed = homes(rt.alloc(), &sum).ok().expect(&rt, "homes");
-    assert!(&rt; ends_with_frame(&homed, 1, SUM));
-    each_homed_run_is_the_run();
-}
-
-// Where local pseudo-registers are in passing ones.
+// The same with local pseudo-registers in passing ones.
 #[rattlefmt::skip]
 const PLACED: &[Row] = &[
     // 0 and 3 are read first in block 1.
@@ -125,20 +130,24 @@ const PLACED: &[Row] = &[
         &[Reg(8), Reg(9), Reg(10), Reg(11), Reg(12), Reg(13), Reg(14), Reg(15), Reg(24), Reg(25), Reg(26), Reg(27), Slot(4)], &[], 5),
 ];
 
-// Function 0, so that others may be called functions with parameters.
-const NOTHING: Function<'static> = (0, &[(&[], Return(None))]);
-
-/// Reports whether the row's function has its frame, where what is local to blocks is placed.
-fn is_placed(alloc: Global, row: Row) -> Option<bool> {
-    let both = program(alloc, &[NOTHING, row.0])?;
-    let placed = place(alloc, &both).ok()?;
-    Some(ends_with_frame(&placed, 2, row))
+/// Reports whether the row's function has its frame, where what is local to blocks may be placed.
+fn is_homed(alloc: Global, row: Row, is_placed: bool) -> Option<bool> {
+    let program = program(alloc, row.0)?;
+    if is_placed {
+        has_frame(&place(alloc, &program).ok()?, row)
+    } else {
+        has_frame(&homes(alloc, &program).ok()?, row)
+    }
 }
 
 #[test]
-fn what_is_local_to_blocks_needs_no_home(rt: HostRuntime) {
-    for (k, &row) in PLACED.iter().enumerate() {
-        assert!(rt; is_placed(rt.alloc(), row) == Some(true), "row {k}");
+fn frames_are_worked(rt: HostRuntime) {
+    for &row in CHOSEN {
+        assert!(rt; is_homed(rt.alloc(), row, false) == Some(true));
     }
+    for &row in PLACED {
+        assert!(rt; is_homed(rt.alloc(), row, true) == Some(true));
+    }
+    each_homed_run_is_the_run();
     each_choice_never_forgets();
 }

@@ -26,8 +26,6 @@ mod phases;
 #[cfg(test)]
 mod pool;
 #[cfg(test)]
-mod programs;
-#[cfg(test)]
 mod streams;
 #[cfg(test)]
 mod tables;
