@@ -16,8 +16,6 @@ mod files;
 #[cfg(test)]
 mod homes;
 #[cfg(test)]
-mod hostile_builds;
-#[cfg(test)]
 mod operators;
 #[cfg(test)]
 mod orders;
