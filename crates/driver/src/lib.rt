@@ -9,7 +9,7 @@
 //!
 //! | Tested | In |
 //! |---|---|
-//! | what images print; failing files and streams; refused memory | tests/builds, test_calls, `.ci/refuse` |
+//! | what images print; failing files and streams; refused memory | tests/builds, tests/program, test_calls, `.ci/refuse` |
 #![tactic(auto)]
 
 mod build_command;

@@ -2,11 +2,10 @@
 //!
 //! - Public calls of passes: the homes of pseudo-registers, units assembled and run, the operators of the machine.
 //! - Orders that schedulers propose, wrong ones too, the pool of workers, phases over them, and many builds in one process.
-//! - The table of terms: small callers with their contracts, what threads do with one table, and notes between threads.
-//! - `mcc`: streams and files that fail half way.
+//! - The table of terms: what threads do with one table, and notes between threads.
+//! - `mcc`: streams that fail half way. A file in memory stands in for the host's.
 //!
-//! `files` and `written` stand in for the host: a file and streams in memory, and what `mcc` does over them. Refused memory is tested by
-//! `.ci/refuse` and `.ci/limits`.
+//! Refused memory is tested by `.ci/refuse` and `.ci/limits`.
 #![tactic(auto)]
 
 #[cfg(test)]
@@ -31,5 +30,3 @@ mod tables;
 mod telling;
 #[cfg(test)]
 mod units;
-#[cfg(test)]
-mod written;
