@@ -34,9 +34,7 @@ fn entered_check<'a>(alloc: Global, values: &ArgMatches<'a>) -> Option<Command<'
             explain,
         }),
         _ => {
-            let Ok(files) = Vec::from_slice(alloc, files) else {
-                return None;
-            };
+            let files = Vec::from_slice(alloc, files).ok()?;
             Some(Command::CheckEach { files, explain })
         }
     }
