@@ -1,7 +1,8 @@
 //! The commands of the program.
 
-ghost use Rattle.std.specs.Prelude.{◌≤◌};
+ghost use Rattle.std.specs.Prelude.{◌≡◌, ◌≤◌};
 ghost use Rattle.term_table.specs.Passes.{InRange};
+ghost use Rattle.command_line.specs.declared.command.Level.TheVariants.{Blocks};
 
 use host::WordForm;
 
@@ -42,7 +43,8 @@ pub struct AskedInterp<'a> {
     pub level: Level,
     pub form: WordForm,
     pub count: bool,
-    ghost deep: { 1 ≤ depth },
+    // the machine's stack is for one call at least
+    ghost deep: { level ≡ Blocks → 1 ≤ depth },
 }
 
 /// What is asked of a run of the image of a file, for `steps` words at most (below 2^32). The words of output have the form;

@@ -34,7 +34,9 @@ fn entered_check<'a>(alloc: Global, values: &ArgMatches<'a>) -> Option<Command<'
             explain,
         }),
         _ => {
-            let files = Vec::from_slice(alloc, files).ok()?;
+            let Ok(files) = Vec::from_slice(alloc, files) else {
+                return None;
+            };
             Some(Command::CheckEach { files, explain })
         }
     }

@@ -14,8 +14,8 @@ use Rattle.host.specs.WrongWords.{IsFaultOfWords, IsHelp, IsMistake}
 use Rattle.host.specs.declared.fault.HostFault.{HostFault}
 use Rattle.host.proofs.Asked.{ran_stopped}
 use Rattle.driver.specs.Several.{BreaksOff, CheckedFile, ChecksAll, ChecksEach, faults_of, lines_of, said_status, status_of, told_of, totals_of, totals_text, worse}
-use Rattle.driver.specs.declared.check_command.said.Said.{Said}
-use Rattle.driver.specs.declared.check_command.said.Said.TheVariants as says
+use Rattle.driver.specs.declared.several.Said.{Said}
+use Rattle.driver.specs.declared.several.Said.TheVariants as says
 use Rattle.command_line.specs.Commands.{IsCommand, mcc_app}
 use Rattle.command_line.specs.Programs.{IsStopped}
 use Rattle.command_line.specs.declared.command.Command.{Command}

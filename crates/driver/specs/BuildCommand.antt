@@ -17,8 +17,8 @@ use Rattle.driver.specs.Builds.{IsScheduledBuild, IsPlain}
 use Rattle.driver.specs.Follows.{FollowsText}
 use Rattle.driver.specs.BuildFaults.{IsBuildFault}
 use Rattle.driver.specs.Halves.{IsTooLongPlain}
-use Rattle.driver.specs.declared.build_command.builds.Built.{Built}
-use Rattle.driver.specs.declared.build_command.builds.BuildFault.{BuildFault}
+use Rattle.driver.specs.declared.builds.Built.{Built}
+use Rattle.driver.specs.declared.builds.BuildFault.{BuildFault}
 
 -- how many items a word of the image stands for at most: one with --plain
 abbrev pub factor_of : Bool → ℕ

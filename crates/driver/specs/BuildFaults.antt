@@ -9,10 +9,10 @@ use Rattle.mips_select.specs.Limits.{most_blocks}
 use Rattle.mblock.specs.declared.limits.TheConstants.{UNIT_BLOCKS}
 use Rattle.mips_asm.specs.declared.limits.TheConstants.{FUNCTION_WORDS}
 use Rattle.driver.specs.SourceFaults.{IsFaultless, IsSourceFault}
-use Rattle.driver.specs.declared.build_command.builds.BuildFault.{BuildFault}
-use Rattle.driver.specs.declared.build_command.builds.BuildFault.TheVariants as faults
-use Rattle.driver.specs.declared.build_command.builds.Limit.{Limit}
-use Rattle.driver.specs.declared.build_command.builds.Limit.TheVariants as limits
+use Rattle.driver.specs.declared.builds.BuildFault.{BuildFault}
+use Rattle.driver.specs.declared.builds.BuildFault.TheVariants as faults
+use Rattle.driver.specs.declared.builds.Limit.{Limit}
+use Rattle.driver.specs.declared.builds.Limit.TheVariants as limits
 
 -- the bytes of a frame, by the counts of the typed function: a word for each pseudo-register, and one for the link
 abbrev pub counted_frame : TypedFunction → ℕ

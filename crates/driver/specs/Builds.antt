@@ -4,7 +4,7 @@ use Rattle.image.specs.Images.{ImageParts, Second, IsImage, image_bytes}
 use Rattle.image.specs.Views.{counts_of}
 use Rattle.sched_phase.specs.Schedules.{ScheduledParts, IsScheduled, ArePlain, no_counts}
 use Rattle.mips_asm.specs.Assembled.{IsAssembled}
-use Rattle.driver.specs.declared.build_command.builds.Built.{Built}
+use Rattle.driver.specs.declared.builds.Built.{Built}
 
 -- image, report and number of blocks are those of this scheduled unit
 pub record IsBuildOf (scheduled : ScheduledParts) (b : Built) : Type 0 where

@@ -6,8 +6,8 @@ use Rattle.host.specs.declared.fault.HostFault.{HostFault}
 use Rattle.host.specs.declared.fault.HostFault.TheVariants.{CannotWrite, NoMemory}
 use Rattle.driver.specs.Checks.{IsAnswerTo, IsCheckFault}
 use Rattle.driver.specs.CheckTexts.{answer_text, check_fault_text, exit_status}
-use Rattle.driver.specs.declared.check_command.verdicts.CheckAnswer.{CheckAnswer}
-use Rattle.driver.specs.declared.check_command.verdicts.CheckFault.{CheckFault}
+use Rattle.driver.specs.declared.verdicts.CheckAnswer.{CheckAnswer}
+use Rattle.driver.specs.declared.verdicts.CheckFault.{CheckFault}
 
 -- what stands after an answer's line: with `--explain` lines of printable ASCII, else nothing
 abbrev pub IsMore : (explain : Bool) → List ℕ → Type 0

@@ -6,10 +6,10 @@ use Rattle.block_text.specs.declared.fault.PairFault.TheVariants.{Line}
 use Rattle.block_text.specs.Faults.{pair_fault_text}
 use Rattle.block_validator.specs.declared.place.Place.{Place}
 use Rattle.block_validator.specs.declared.place.Place.TheVariants as places
-use Rattle.driver.specs.declared.check_command.verdicts.CheckAnswer.{CheckAnswer}
-use Rattle.driver.specs.declared.check_command.verdicts.CheckAnswer.TheVariants as answers
-use Rattle.driver.specs.declared.check_command.verdicts.CheckFault.{CheckFault}
-use Rattle.driver.specs.declared.check_command.verdicts.CheckFault.TheVariants as check_faults
+use Rattle.driver.specs.declared.verdicts.CheckAnswer.{CheckAnswer}
+use Rattle.driver.specs.declared.verdicts.CheckAnswer.TheVariants as answers
+use Rattle.driver.specs.declared.verdicts.CheckFault.{CheckFault}
+use Rattle.driver.specs.declared.verdicts.CheckFault.TheVariants as check_faults
 
 abbrev pub place_text : Place → List ℕ
 place_text (places.Register r) = register_text r

@@ -6,10 +6,10 @@ use Rattle.block_text.specs.Whole.{FailsAt, SpellsPair}
 use Rattle.mblock.specs.Clean.{IsClean}
 use Rattle.sym_exec.specs.Growth.{block_growth, order_growth}
 use Rattle.block_validator.specs.Verdicts.{Decides, same, unclean, differs}
-use Rattle.driver.specs.declared.check_command.verdicts.CheckAnswer.{CheckAnswer}
-use Rattle.driver.specs.declared.check_command.verdicts.CheckAnswer.TheVariants as answers
-use Rattle.driver.specs.declared.check_command.verdicts.CheckFault.{CheckFault}
-use Rattle.driver.specs.declared.check_command.verdicts.CheckFault.TheVariants as faults
+use Rattle.driver.specs.declared.verdicts.CheckAnswer.{CheckAnswer}
+use Rattle.driver.specs.declared.verdicts.CheckAnswer.TheVariants as answers
+use Rattle.driver.specs.declared.verdicts.CheckFault.{CheckFault}
+use Rattle.driver.specs.declared.verdicts.CheckFault.TheVariants as faults
 
 -- what is decided of the order; a full table is no verdict, and comes only on a clean order that may make too many terms with its block
 abbrev pub IsAnswer : BlockParts → OrderParts → CheckAnswer → Type 0

@@ -4,8 +4,8 @@ use Rattle.std.specs.List.{FoldsTo, flat_map}
 use Rattle.std.specs.Io.KnownBytes.{Appends}
 use Rattle.host.specs.Requests.{HostState, Relations, Request, TellsLine}
 use Rattle.driver.specs.Several.{CheckedFile, IsRight, faults_of, lines_of, no_totals, totals_by}
-use Rattle.driver.specs.declared.check_command.totals.Totals.{Totals}
-use Rattle.driver.specs.declared.check_command.said.FileLine.{FileLine}
+use Rattle.driver.specs.declared.several.Totals.{Totals}
+use Rattle.driver.specs.declared.several.FileLine.{FileLine}
 
 -- a count as it is kept, in 64 bits: one more, or the greatest
 abbrev pub kept_more : ℕ → ℕ

@@ -14,10 +14,10 @@ use Rattle.mips_asm.specs.declared.limits.TheConstants.{FUNCTION_WORDS}
 use Rattle.runs.specs.Refines.{Refines, Same, AtLeast}
 use Rattle.driver.specs.BuildFaults.{blocks_counted}
 use Rattle.driver.specs.Builds.{IsBuildOf, IsPlain}
-use Rattle.driver.specs.declared.build_command.builds.Built.{Built}
-use Rattle.driver.specs.declared.build_command.builds.BuildFault.{BuildFault}
-use Rattle.driver.specs.declared.build_command.builds.BuildFault.TheVariants as faults
-use Rattle.driver.specs.declared.build_command.builds.Limit.TheVariants as limits
+use Rattle.driver.specs.declared.builds.Built.{Built}
+use Rattle.driver.specs.declared.builds.BuildFault.{BuildFault}
+use Rattle.driver.specs.declared.builds.BuildFault.TheVariants as faults
+use Rattle.driver.specs.declared.builds.Limit.TheVariants as limits
 
 -- a unit that refines a run, whatever the links of its calls
 abbrev pub IsRefinedBy : (source : ℕ → Outcome) → UnitParts → Type 0

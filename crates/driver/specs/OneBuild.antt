@@ -3,7 +3,7 @@ use Rattle.std.specs.Prelude.{◌≡◌}
 use Rattle.image.specs.Views.{counts_of}
 use Rattle.sched_phase.specs.Phases.{Proposals, IsPhase}
 use Rattle.sched_phase.specs.Outcomes.{ProposesOne, EachDecided}
-use Rattle.driver.specs.declared.build_command.builds.Built.{Built}
+use Rattle.driver.specs.declared.builds.Built.{Built}
 use Rattle.driver.specs.Builds.{IsScheduledBuild}
 
 -- scheduled builds of one unit that decided each block have the same bytes, where one order a block is proposed

@@ -4,7 +4,6 @@ use Rattle.std.specs.Prelude.{◌≡◌, ◌≢◌, ◌≤◌, ◌⊎◌, ℕ, L
 use Rattle.std.specs.declared.vec.Vec.{Vec}
 use Rattle.std.specs.declared.alloc.Global.{Global}
 use Rattle.std.specs.Borrow.{Bor}
-use Rattle.runs.specs.Runs.{Outcome}
 use Rattle.image.specs.Texts.{image_fault_text}
 use Rattle.image.specs.Images.{IsImageFault}
 use Rattle.image.specs.declared.fault.ImageFault.{ImageFault}
@@ -16,59 +15,17 @@ use Rattle.driver.specs.CheckCommand.{checking}
 use Rattle.driver.specs.Several.{BreaksOff, ChecksAll, ChecksEach}
 use Rattle.driver.specs.SourceFaults.{IsFaultless}
 use Rattle.driver.specs.BuildCommand.{build_meaning}
-use Rattle.host.specs.declared.numbers.WordForm.{WordForm}
-use Rattle.driver.specs.RunCommand.{IsCountedRemark, IsRunRemark, PrintsRun, running}
-use Rattle.driver.specs.declared.run_command.remarks.Counted.TheVariants.{Steps}
+use Rattle.driver.specs.RunCommand.{running}
 use Rattle.command_line.specs.Commands.{IsCommand, mcc_app}
 use Rattle.command_line.specs.Programs.{EndsUntaken, HasMistake, IsAnswered, IsStopped}
 use Rattle.command_line.specs.declared.command.AskedBuild.{AskedBuild}
-use Rattle.command_line.specs.declared.command.AskedInterp.{AskedInterp}
 use Rattle.command_line.specs.declared.command.Command.{Command}
 use Rattle.command_line.specs.declared.command.Command.TheVariants.{Check, CheckEach, Interp, Build, Run, List as Listing, NoChoice, Show}
-use Rattle.driver.specs.Texts.{end_text, end_status, interp_fault_text, no_choice_text}
-use Rattle.driver.specs.Interps.{IsRun, IsInterpFault, IsStepCount}
-use Rattle.driver.specs.declared.source_runs.InterpFault.{InterpFault}
-use Rattle.driver.specs.BuildTexts.{build_fault_text}
-use Rattle.driver.specs.declared.build_command.builds.BuildFault.{BuildFault}
-use Rattle.command_line.specs.declared.command.Level.{Level}
-use Rattle.command_line.specs.declared.command.Level.TheVariants as levels
-use Rattle.driver.specs.Levels.{IsFaultBelow, IsRunBelow}
-use Rattle.driver.specs.declared.levels.Below.{Below}
-use Rattle.driver.specs.declared.levels.Below.TheVariants as belows
+use Rattle.driver.specs.Texts.{no_choice_text}
+use Rattle.driver.specs.Levels.{interpreting}
 use Rattle.driver.specs.Listings.{IsListing, IsOfImage}
 use Rattle.driver.specs.Stages.{IsStagesFault, stages_fault_text}
 use Rattle.driver.specs.declared.show_commands.StagesFault.{StagesFault}
-
--- `mcc interp SOURCE`, which prints while it runs
-abbrev pub interpreting : (depth steps : ℕ) → WordForm → (counts : Bool) → FileMeaning Outcome InterpFault
-interpreting depth steps form counts = record {
-  Answers = λ text o. IsRun text depth steps o;
-  Faults = IsInterpFault;
-  Prints = PrintsRun end_text form;
-  status_of = λ o. end_status o.end;
-  Remarks = λ text. IsCountedRemark Steps steps counts (IsStepCount text depth steps);
-  line = interp_fault_text;
-  Unprinted = IsRefused;
-  streams = true;
-}
-
--- the same with `--at` a level below C, where steps aren't counted
-abbrev pub interpreting_below : Below → AskedInterp → FileMeaning Outcome BuildFault
-interpreting_below below asked = record {
-  Answers = λ text o. IsRunBelow below text asked.depth asked.steps o;
-  Faults = IsFaultBelow below asked.depth;
-  Prints = PrintsRun end_text asked.form;
-  status_of = λ o. end_status o.end;
-  Remarks = λ text. IsRunRemark (record { unit = Steps; count = 0; most = asked.steps; counts = false });
-  line = build_fault_text;
-  Unprinted = IsRefused;
-  streams = false;
-}
-
-abbrev pub interp_meaning : Level → AskedInterp → Meaning
-interp_meaning levels.C asked = file_meaning (interpreting asked.depth asked.steps asked.form asked.count) asked.source.now
-interp_meaning levels.Rtl asked = file_meaning (interpreting_below belows.Rtl asked) asked.source.now
-interp_meaning levels.Blocks asked = file_meaning (interpreting_below belows.Blocks asked) asked.source.now
 
 -- what is printed of an image: its listing, or with `--asm` its source. Of the source no more is said than that it is lines of printable
 -- ASCII
@@ -111,7 +68,8 @@ meaning_of (CheckEach files explain) = record {
   Stops = BreaksOff explain (map (λ s. s.now) files.items);
   Begins = λ requests printed. ⊥;
 }
-meaning_of (Interp asked) = interp_meaning asked.level asked
+meaning_of (Interp asked) =
+    file_meaning (interpreting asked.level asked.depth asked.steps asked.form asked.count) asked.source.now
 meaning_of (Build asked) = build_meaning asked
 meaning_of (Run asked) = file_meaning (running asked.steps asked.form asked.count) asked.image.now
 meaning_of (Listing image asm) = file_meaning (listing_image asm) image.now

@@ -12,11 +12,11 @@ use Rattle.host.specs.declared.fault.HostFault.TheVariants.{CannotWrite, NoMemor
 use Rattle.driver.specs.Checks.{IsAnswerTo, IsCheckFault}
 use Rattle.driver.specs.CheckCommand.{IsMore}
 use Rattle.driver.specs.CheckTexts.{answer_text, check_fault_text, exit_status}
-use Rattle.driver.specs.declared.check_command.said.Said.{Said}
-use Rattle.driver.specs.declared.check_command.said.Said.TheVariants as says
-use Rattle.driver.specs.declared.check_command.verdicts.CheckAnswer.{CheckAnswer}
-use Rattle.driver.specs.declared.check_command.verdicts.CheckAnswer.TheVariants as answers
-use Rattle.driver.specs.declared.check_command.totals.Totals.{Totals}
+use Rattle.driver.specs.declared.several.Said.{Said}
+use Rattle.driver.specs.declared.several.Said.TheVariants as says
+use Rattle.driver.specs.declared.verdicts.CheckAnswer.{CheckAnswer}
+use Rattle.driver.specs.declared.verdicts.CheckAnswer.TheVariants as answers
+use Rattle.driver.specs.declared.several.Totals.{Totals}
 
 -- what the line of a file says after its name, the status of that, and the lines of faults that are told of it
 abbrev pub said_text : Said → List ℕ

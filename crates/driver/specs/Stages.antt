@@ -8,8 +8,8 @@ use Rattle.mips_select.specs.Limits.{largest_frame, most_by_exits_for}
 use Rattle.driver.specs.BuildFaults.{largest_counted, functions_counted, IsBuildFault}
 use Rattle.driver.specs.SourceFaults.{IsFaultless}
 use Rattle.driver.specs.BuildTexts.{build_fault_text}
-use Rattle.driver.specs.declared.build_command.builds.BuildFault.TheVariants as builds
-use Rattle.driver.specs.declared.build_command.builds.Limit.TheVariants as limits
+use Rattle.driver.specs.declared.builds.BuildFault.TheVariants as builds
+use Rattle.driver.specs.declared.builds.Limit.TheVariants as limits
 use Rattle.driver.specs.declared.show_commands.StagesFault.{StagesFault}
 use Rattle.driver.specs.declared.show_commands.StagesFault.TheVariants as faults
 

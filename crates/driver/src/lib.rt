@@ -13,38 +13,31 @@
 #![tactic(auto)]
 
 mod build_command;
+mod builds;
 mod check_command;
-mod choices;
-mod image_commands;
+mod image_faults;
 mod interp_command;
-mod level_runs;
-mod levels;
-mod listings;
-mod pages;
-mod placed_statements;
+mod portions;
 mod program;
 mod reasons;
+mod remarks;
 mod run_command;
-mod running_source;
+mod several;
 mod show_commands;
-mod source_runs;
-mod texts;
+mod verdicts;
 mod wrong_places;
 
-pub use build_command::{
-    BuildFault, BuildOpts, Built, Limit, build, build_one, build_plain, one_build, print_built,
-    tell_build, unit_of,
+pub use build_command::{print_built, tell_build};
+pub use builds::{
+    BuildFault, BuildOpts, Built, Limit, build, build_one, build_plain, one_build, unit_of,
 };
-pub use check_command::{CheckAnswer, CheckCommand, CheckFault, check};
-pub use command_line::{AskedBuild, Command, words};
+pub use check_command::CheckCommand;
+pub use command_line::{AskedBuild, AskedInterp, AskedRun, Command, Level, words};
 pub use host::{FileFault, Files};
-pub use image_commands::ImageCommand;
-pub use interp_command::InterpCommand;
-pub use level_runs::{interp_blocks, interp_rtl};
-pub use listings::list_image;
+pub use interp_command::{InterpCommand, interp, interp_blocks, interp_rtl};
 pub use messages::SourceFault;
 pub use program::mcc;
 pub use reasons::wrong_page;
 pub use run_command::{RunCommand, run_image};
-pub use show_commands::{ShowCommand, StagesFault, stages};
-pub use source_runs::{InterpFault, interp};
+pub use show_commands::{ImageCommand, ShowCommand, StagesFault, list_image, stages};
+pub use verdicts::{CheckAnswer, CheckFault, check};

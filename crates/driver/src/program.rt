@@ -1,22 +1,45 @@
 //! The whole program: its words, its files and its streams.
-ghost use Rattle.std.specs.Prelude.{map};
+ghost use Rattle.std.specs.Prelude.{◌≡◌, map};
 ghost use Rattle.host.specs.Hosts.{IsSameHost, state_of};
-ghost use Rattle.host.specs.Requests.{host_of, relations};
+ghost use Rattle.host.specs.Requests.{TellsLine, host_of, relations};
 ghost use Rattle.driver.specs.Program.{RanWords};
+ghost use Rattle.driver.specs.Texts.{no_choice_text};
 
 use crate::build_command::build_file;
-use crate::check_command::{check_file, check_files};
-use crate::choices::tell_choice;
-use crate::image_commands::ImageCommand;
-use crate::levels::interp_at;
-use crate::run_command::run_file;
-use crate::show_commands::ShowCommand;
-use command_line::{Command, words};
-use host::{Complaints, Files, Host, Output, answer_file, tell_words};
+use crate::check_command::CheckCommand;
+use crate::interp_command::InterpCommand;
+use crate::run_command::RunCommand;
+use crate::several::check_files;
+use crate::show_commands::{ImageCommand, ShowCommand};
+use command_line::{Choice, Command, words};
+use host::{Complaints, Files, Host, Output, answer_file, tell, tell_file, tell_words};
 use show::Asked;
 use std::alloc::Global;
 use std::sync::Wait;
 use std::thread::Threads;
+
+/// The line of the fault of an option that has none of its names.
+const NO_CHOICE: &str = "fault 19 NoChoice";
+
+/// Returns the option, and its names as a hint has them.
+fn option_and_names(choice: Choice) -> (&'static str, &'static str) {
+    match choice {
+        Choice::Form => ("--as", "write --as signed, --as hex or --as unsigned"),
+        Choice::Level => ("--at", "write --at rtl, --at blocks or --at c"),
+    }
+}
+
+/// Tells that fault, and below it which names the option has.
+fn tell_choice<E: Complaints>(alloc: Global, err: &mut E, choice: Choice, value: &str) -> u8
+    ensures status { result ≡ 1 }
+    ensures told { TellsLine E.tells err.old no_choice_text err.new }
+{
+    let (option, hint) = option_and_names(choice);
+    match format!(in alloc; "{option} takes no '{value}'") {
+        Ok(message) => tell_file(alloc, err, &NO_CHOICE, "mcc", message.as_str(), Some(hint)),
+        Err(_) => tell(err, &NO_CHOICE),
+    }
+}
 
 /// Does what the words ask for, over a host that is lent.
 fn answer_words<T: Threads + Wait + Sync, F: Files, W: Output, E: Complaints>(
@@ -30,11 +53,11 @@ fn answer_words<T: Threads + Wait + Sync, F: Files, W: Output, E: Complaints>(
 {
     let alloc = host.alloc;
     match words(alloc, args) {
-        Ok(Command::Check { file, explain }) => check_file(host, file, explain),
+        Ok(Command::Check { file, explain }) => answer_file(host, &CheckCommand { explain }, file),
         Ok(Command::CheckEach { files, explain }) => check_files(host, files.as_slice(), explain),
-        Ok(Command::Interp(asked)) => interp_at(host, asked),
+        Ok(Command::Interp(asked)) => answer_file(host, &InterpCommand { asked }, asked.source),
         Ok(Command::Build(asked)) => build_file(rt, host, &asked),
-        Ok(Command::Run(asked)) => run_file(host, asked),
+        Ok(Command::Run(asked)) => answer_file(host, &RunCommand { asked }, asked.image),
         Ok(Command::List { image, asm }) => answer_file(host, &ImageCommand { asm }, image),
         Ok(
             Command::Show {

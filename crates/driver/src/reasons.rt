@@ -1,11 +1,11 @@
 //! Why a program's run is wrong, in lines for people.
 
-use crate::build_command::typed_of;
+use crate::builds::typed_of;
 use crate::wrong_places::place_in_text;
 use c_run::{Reason, reason_of, wrong_place_of};
 use c_tokens::IntegerType;
 use c_tree::{BinaryOp, UnaryOp};
-use host::{Spot, spot_of};
+use host::spot_of;
 use show::Names;
 use std::alloc::Global;
 use text::{Page, WIDTH, Writer};
@@ -123,11 +123,11 @@ pub fn wrong_page(
     let names = Names::read(alloc, text).ok()?;
     let mut out = Writer::new(alloc);
     out.text(source);
-    if let Some(at) = place_in_text(alloc, text, &typed, place).ok()? {
-        let Spot { line, column } = spot_of(text, at);
-        out.put(&format_args!(":{line}:{column}"));
+    match place_in_text(alloc, text, &typed, place).ok()? {
+        Some(at) => out.put(&spot_of(text, at)),
+        None => out.text(":"),
     }
-    out.put(&format_args!(": in function '{}':\n", names.function(place.function)));
+    out.put(&format_args!(" in function '{}':\n", names.function(place.function)));
     put_reason(&mut out, why, depth, &names, place.function);
     page_of(alloc, out)
 }

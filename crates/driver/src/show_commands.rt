@@ -1,21 +1,26 @@
-//! The command that shows what becomes of a program, stage by stage.
+//! The commands that show what becomes of a program, stage by stage, and an image.
 
-ghost use Rattle.std.specs.Prelude.{ℕ, List, IfErr, IfOk, Some, ⊤};
-ghost use Rattle.driver.specs.BuildFaults.{IsBeforeSelection, IsBuildFault};
+ghost use Rattle.std.specs.Prelude.{ℕ, List, IfErr, IfOk, Some};
+ghost use Rattle.std.specs.String.{string_bytes};
+ghost use Rattle.image.specs.Images.{IsImageFault};
+ghost use Rattle.driver.specs.Listings.{IsListing};
+ghost use Rattle.driver.specs.Program.{IsImagePage, listing_image, showing};
 ghost use Rattle.driver.specs.SourceFaults.{IsFaultless};
-ghost use Rattle.driver.specs.Program.{showing};
-ghost use Rattle.driver.specs.Stages.{IsRtlOf, IsStagesFault, stages_fault_text};
+ghost use Rattle.driver.specs.Stages.{IsStagesFault, stages_fault_text};
 
-use crate::build_command::{BuildFault, Limit, rtl_of_typed, tell_build, typed_of};
-use crate::pages::print_page;
+use crate::build_command::tell_build;
+use crate::builds::{BuildFault, Limit, rtl_of};
+use crate::image_faults::tell_image;
 use crate::reasons::page_of;
-use crate::run_command::tell_page;
+use crate::remarks::tell_page;
 use c_front::read;
 use c_tree::{Declaration, Program};
-use host::{BadFile, Broken, Complaints, FileCommand, Output, tell};
+use host::{Broken, Complaints, Ended, FileCommand, Output, ReadFile, tell};
+use image::{ImageFault, read_image};
+use mips_asm::list;
 use mips_select::{Numbered, SelectFault, select_numbered};
 use rtl::Rtl;
-use show::{Asked, ShowFault, Shown, show};
+use show::{Asked, ShowFault, Shown, assembler_source, show};
 use std::alloc::Global;
 use std::error::Error;
 use std::fmt;
@@ -48,16 +53,6 @@ impl fmt::Display for StagesFault {
 }
 
 impl Error for StagesFault {}
-
-/// Returns the RTL of the program that the text spells.
-pub(crate) fn rtl_of(alloc: Global, text: &[u8]) -> Result<Rtl, BuildFault>
-    ensures spelled { IfOk result (IsRtlOf text.now) }
-    ensures fault { IfErr result (IsBuildFault text.now 1) }
-    ensures stage { IfErr result IsBeforeSelection }
-{
-    let typed = typed_of(alloc, text)?;
-    rtl_of_typed(alloc, &typed)
-}
 
 /// Returns what is asked for of a program at its stages.
 fn shown_of(
@@ -105,15 +100,6 @@ pub fn stages(alloc: Global, text: &[u8], asked: &Asked<'_>) -> Result<Page, Sta
     }
 }
 
-/// Writes what is said of a stage that isn't there.
-fn put_no_stage(out: &mut Writer, stage: Option<&str>) {
-    match stage {
-        Some(name) => out.put(&format_args!("error: there is no stage '{name}'\n")),
-        None => out.text("error: there is no stage of this name\n"),
-    }
-    out.text("hint: stages are rtl, homes, blocks, orders, check, terms, listing and asm\n");
-}
-
 /// Writes the functions of the program that the text spells, as `f, g, main`.
 fn put_functions(out: &mut Writer, program: &Program) {
     let mut before = "";
@@ -127,11 +113,8 @@ fn put_functions(out: &mut Writer, program: &Program) {
 }
 
 /// Writes what is said of a function that isn't there.
-fn put_no_function(alloc: Global, out: &mut Writer, text: &[u8], function: Option<&str>) {
-    match function {
-        Some(name) => out.put(&format_args!("error: the program has no function '{name}'\n")),
-        None => out.text("error: the program has no function of this name\n"),
-    }
+fn put_no_function(alloc: Global, out: &mut Writer, text: &[u8], function: &str) {
+    out.put(&format_args!("error: the program has no function '{function}'\n"));
     if let Ok(program) = read(alloc, text) {
         out.text("hint: it has ");
         put_functions(out, &program);
@@ -140,17 +123,15 @@ fn put_no_function(alloc: Global, out: &mut Writer, text: &[u8], function: Optio
 }
 
 /// Writes what is said of a block that isn't there.
-fn put_no_block(out: &mut Writer, asked: &Asked<'_>, first: usize, last: usize) {
-    match asked.function {
-        Some(name) => out.put(&format_args!("error: the function '{name}' has no block ")),
-        None => out.text("error: the program has no block "),
+fn put_no_block(out: &mut Writer, function: Option<&str>, block: u32, first: usize, last: usize) {
+    match function {
+        Some(name) => out.put(&format_args!("error: the function '{name}' has no block {block}\n")),
+        None => out.put(&format_args!("error: the program has no block {block}\n")),
     }
-    match asked.block {
-        Some(number) => out.put(&number),
-        None => out.text("of this number"),
-    }
-    out.put(&format_args!("\nhint: it has {first} to {last}\n"));
+    out.put(&format_args!("hint: it has {first} to {last}\n"));
 }
+
+const STAGES: &str = "hint: stages are rtl, homes, blocks, orders, check, terms, listing and asm\n";
 
 /// `mcc show`, with what is asked for.
 #[derive(Clone, Copy)]
@@ -167,40 +148,98 @@ impl FileCommand for ShowCommand<'_> {
 
     ghost meaning = { λ s. showing };
 
-    ghost end_status = { λ _. 0 };
+    fn run<W: Output>(&self, alloc: Global, bytes: &[u8], out: &mut W) -> Ended<Self> {
+        let page = stages(alloc, bytes, &self.asked).map_err(Broken::Faulty)?;
+        out.put_bytes(page.bytes())?;
+        out.send()?;
+        Ok((0, ()))
+    }
 
-    ghost most = { 0 };
+    fn remark<E: Complaints>(&self, _alloc: Global, _of: &ReadFile<'_, (u8, ())>, _err: &mut E) {}
 
-    ghost knows = { λ s text _. ⊤ };
-
-    fn run<W: Output>(
+    fn tell<E: Complaints>(
         &self,
         alloc: Global,
-        bytes: &[u8],
-        out: &mut W,
-    ) -> Result<(), Broken<StagesFault>> {
-        let page = stages(alloc, bytes, &self.asked).map_err(Broken::Faulty)?;
-        print_page(out, page.bytes())?;
-        Ok(())
-    }
-
-    fn status_of(&self, _end: &()) -> u8 {
-        0
-    }
-
-    fn remark<E: Complaints>(&self, _alloc: Global, _bytes: &[u8], _end: &(), _err: &mut E) {}
-
-    fn tell<E: Complaints>(&self, alloc: Global, of: &BadFile<'_, StagesFault>, err: &mut E) -> u8 {
-        let asked = &self.asked;
+        of: &ReadFile<'_, StagesFault>,
+        err: &mut E,
+    ) -> u8 {
+        let Asked {
+            stage,
+            function,
+            block,
+            ..
+        } = self.asked;
         let mut out = Writer::new(alloc);
-        match of.fault {
+        match of.found {
             StagesFault::Build(fault) => return tell_build(alloc, err, of.file, of.bytes, fault),
-            StagesFault::NoStage => put_no_stage(&mut out, asked.stage),
-            StagesFault::NoFunction => put_no_function(alloc, &mut out, of.bytes, asked.function),
-            StagesFault::NoBlock { first, last } => put_no_block(&mut out, asked, first, last),
+            StagesFault::NoStage => {
+                let stage = stage.unwrap_or("");
+                out.put(&format_args!("error: there is no stage '{stage}'\n{STAGES}"));
+            }
+            StagesFault::NoFunction => {
+                put_no_function(alloc, &mut out, of.bytes, function.unwrap_or(""));
+            }
+            StagesFault::NoBlock { first, last } => {
+                put_no_block(&mut out, function, block.unwrap_or(0), first, last);
+            }
         }
-        let status = tell(err, &of.fault);
+        let status = tell(err, &of.found);
         tell_page(err, page_of(alloc, out));
         status
+    }
+}
+
+/// Returns the listing of the image of these bytes.
+pub fn list_image(alloc: Global, bytes: &[u8]) -> Result<String, ImageFault>
+    ensures listed { IfOk result (λ text. IsListing bytes.now (string_bytes text)) }
+    ensures fault { IfErr result (IsImageFault bytes.now) }
+{
+    let image = read_image(alloc, bytes)?;
+    Ok(list(alloc, &image)?)
+}
+
+/// `mcc list`, or with `asm` `mcc list --asm`.
+#[derive(Clone, Copy)]
+pub struct ImageCommand {
+    pub asm: bool,
+}
+
+impl ImageCommand {
+    /// Returns what is printed of an image's bytes.
+    fn page(self, alloc: Global, bytes: &[u8]) -> Result<Vec<u8>, ImageFault>
+        ensures page { IfOk result (λ page. IsImagePage self.asm bytes.now page.items) }
+        ensures fault { IfErr result (IsImageFault bytes.now) }
+    {
+        if self.asm {
+            let image = read_image(alloc, bytes)?;
+            let source = assembler_source(alloc, &image, &[])?;
+            Ok(source.into_bytes())
+        } else {
+            let listing = list_image(alloc, bytes)?;
+            Ok(listing.into_bytes())
+        }
+    }
+}
+
+impl FileCommand for ImageCommand {
+    type End = ();
+
+    type Fault = ImageFault;
+
+    ghost Answer = { List ℕ };
+
+    ghost meaning = { λ s. listing_image s.asm };
+
+    fn run<W: Output>(&self, alloc: Global, bytes: &[u8], out: &mut W) -> Ended<Self> {
+        let page = self.page(alloc, bytes).map_err(Broken::Faulty)?;
+        out.put_bytes(page.as_slice())?;
+        out.send()?;
+        Ok((0, ()))
+    }
+
+    fn remark<E: Complaints>(&self, _alloc: Global, _of: &ReadFile<'_, (u8, ())>, _err: &mut E) {}
+
+    fn tell<E: Complaints>(&self, alloc: Global, of: &ReadFile<'_, ImageFault>, err: &mut E) -> u8 {
+        tell_image(alloc, err, of.file, of.bytes, of.found)
     }
 }

@@ -4,7 +4,7 @@ use Rattle.std.specs.List.{FoldsTo}
 use Rattle.host.specs.Requests.{Asks, Does, HostState, IsSent, Meaning, Ran, Relations, Request, StopsMidway, TellsLine, WasRefused}
 use Rattle.host.specs.Requests.Request.{Read}
 use Rattle.host.specs.Hosts.{RanOn, state_of}
-use Rattle.host.specs.declared.host.Host.{Host}
+use Rattle.host.specs.declared.one_file.Host.{Host}
 
 module _ {F : Type 0} (answers : F → Request → F → Type 0) where
   pub asked_once : (old new : F) (r : Request) → answers old r new → FoldsTo answers old (r ∷ []) new

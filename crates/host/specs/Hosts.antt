@@ -1,7 +1,7 @@
 -- A host as commands have it, and what a command did to it.
 use Rattle.std.specs.Prelude.{◌≡◌, ℕ}
 use Rattle.host.specs.Requests.{HostState, Meaning, Ran, Relations, host_of}
-use Rattle.host.specs.declared.host.Host.{Host}
+use Rattle.host.specs.declared.one_file.Host.{Host}
 
 module _ {F W E : Type 0} where
   -- its files and its streams

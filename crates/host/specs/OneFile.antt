@@ -1,5 +1,5 @@
 -- What a command over one file asks of its files, prints and tells. It prints once it has its answer, or while it works.
-use Rattle.std.specs.Prelude.{◌≡◌, ℕ, List, [], ◌∷◌, ◌++◌, Bool, true, Option}
+use Rattle.std.specs.Prelude.{◌≡◌, ◌≢◌, ◌≤◌, ℕ, List, [], ◌∷◌, ◌++◌, Bool, true, Option}
 use Rattle.std.specs.Io.KnownBytes.{Appends}
 use Rattle.host.specs.Requests.{LeavesOutput, Meaning, Request, reading_fault}
 use Rattle.host.specs.Requests.Request.{Read, NotRead}
@@ -13,6 +13,10 @@ use Rattle.host.specs.declared.one_file.Broken.TheVariants.{Faulty, Unprinted, M
 -- standard output was refused
 abbrev pub IsRefused : HostFault → Type 0
 IsRefused fault = fault ≡ CannotWrite
+
+-- a status with which a command may end that has its answer: neither that of a fault nor that of wrong words
+abbrev pub IsAnswerStatus : ℕ → Type 0
+IsAnswerStatus status = (status ≤ 4) × (status ≢ 1) × (status ≢ 2)
 
 -- standard output took what is printed of an answer
 abbrev pub TookPrint : Option (List ℕ) → Option (List ℕ) → (List ℕ → Type 0) → Type 0

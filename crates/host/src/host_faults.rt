@@ -1,8 +1,7 @@
 //! What is told of the faults of files and of standard output: their lines, and below them which file and why.
 
-ghost use Rattle.std.specs.Prelude.{◌≡◌, All, IfSome};
-ghost use Rattle.host.specs.Requests.{TellsBeside, TellsLine};
-ghost use Rattle.text.specs.Shown.{IsTold};
+ghost use Rattle.std.specs.Prelude.{◌≡◌, IfSome};
+ghost use Rattle.host.specs.Requests.{TellsLine};
 ghost use Rattle.host.specs.Texts.{host_fault_text};
 
 use crate::fault::{Complaints, HostFault, tell};
@@ -10,79 +9,55 @@ use crate::place::file_page;
 use std::alloc::Global;
 use std::fmt;
 
-/// What is wrong with a file as a whole.
-#[derive(Clone, Copy)]
-pub struct FileError<'a> {
-    /// The file as it was named.
-    pub file: &'a str,
-    pub message: &'a str,
-    pub hint: Option<&'a str>,
-}
-
-/// Tells the line of a fault, and below it the file and what is wrong with it. If memory is refused, it tells the line alone.
+/// Tells the line of a fault, and below it the file as it was named, what is wrong with it, and a hint. If memory is refused, it tells the
+/// line alone.
 pub fn tell_file<E: Complaints, F: fmt::Display>(
     alloc: Global,
     err: &mut E,
     fault: &F,
-    about: &FileError<'_>,
+    file: &str,
+    message: &str,
+    hint: Option<&str>,
 ) -> u8
     ensures status { result ≡ 1 }
     ensures told { IfSome (F.output fault.now) (λ text. TellsLine E.tells err.old text err.new) }
 {
     err.line(fault);
-    show_file(alloc, err, about);
+    if let Ok(page) = file_page(alloc, file, message, hint) {
+        err.bytes(page.bytes());
+    }
     1
 }
 
-/// Tells the file and what is wrong with it.
-fn show_file<E: Complaints>(alloc: Global, err: &mut E, about: &FileError<'_>)
-    ensures { TellsBeside E.tells err.old (All (All IsTold)) err.new }
-{
-    if let Ok(page) = file_page(alloc, about) {
-        err.bytes(page.bytes());
-    }
-}
-
-/// Tells the fault of a file, and below it what is wrong with the file; of refused memory the line alone.
-fn tell_host<E: Complaints>(
-    alloc: Global,
-    err: &mut E,
-    about: &FileError<'_>,
-    fault: HostFault,
-) -> u8
-    ensures status { result ≡ 1 }
-    ensures told { TellsLine E.tells err.old (host_fault_text fault) err.new }
-{
-    match fault {
-        HostFault::CannotRead | HostFault::CannotWrite => tell_file(alloc, err, &fault, about),
-        HostFault::NoMemory => tell(err, &fault),
-    }
-}
-
-/// Tells why a file isn't read.
+/// Tells why a file isn't read; of refused memory the line alone.
 pub fn tell_unread<E: Complaints>(alloc: Global, err: &mut E, file: &str, fault: HostFault) -> u8
     ensures status { result ≡ 1 }
     ensures told { TellsLine E.tells err.old (host_fault_text fault) err.new }
 {
-    let about = FileError {
-        file,
-        message: "this file can't be read",
-        hint: None,
-    };
-    tell_host(alloc, err, &about, fault)
+    match fault {
+        HostFault::NoMemory => tell(err, &fault),
+        _ => tell_file(alloc, err, &fault, file, "this file can't be read", None),
+    }
 }
 
-/// Tells why an image isn't written.
+const IMAGE_HINT: &str = "it has to be a new file, or one that may be written and isn't the source";
+
+/// Tells why an image isn't written; of refused memory the line alone.
 pub fn tell_unwritten<E: Complaints>(alloc: Global, err: &mut E, file: &str, fault: HostFault) -> u8
     ensures status { result ≡ 1 }
     ensures told { TellsLine E.tells err.old (host_fault_text fault) err.new }
 {
-    let about = FileError {
-        file,
-        message: "the image can't be written",
-        hint: Some("it has to be a new file, or one that may be written and isn't the source"),
-    };
-    tell_host(alloc, err, &about, fault)
+    match fault {
+        HostFault::NoMemory => tell(err, &fault),
+        _ => tell_file(
+            alloc,
+            err,
+            &fault,
+            file,
+            "the image can't be written",
+            Some(IMAGE_HINT),
+        ),
+    }
 }
 
 /// What is told below a refusal of standard output.

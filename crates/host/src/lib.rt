@@ -14,25 +14,19 @@
 mod disk;
 mod fault;
 mod files;
-mod host;
 mod host_faults;
-mod names;
 mod numbers;
 mod one_file;
 mod output;
 mod place;
-mod streams;
 mod wrong_words;
 
 pub use disk::{Disk, LONGEST_TEXT};
 pub use fault::{Complaints, HostFault, tell};
 pub use files::{FileFault, Files, read_file, write_file};
-pub use host::Host;
-pub use host_faults::{FileError, tell_file, tell_unprinted, tell_unread, tell_unwritten};
-pub use names::print_name;
+pub use host_faults::{tell_file, tell_unprinted, tell_unread, tell_unwritten};
 pub use numbers::{FormedWord, WordForm};
-pub use one_file::{BadFile, Broken, FileCommand, answer_file};
-pub use output::Output;
+pub use one_file::{Broken, Ended, FileCommand, Host, ReadFile, answer_file};
+pub use output::{Output, UntilRefused, print_name};
 pub use place::{Place, Spot, line_offset, spot_of, tell_placed};
-pub use streams::UntilRefused;
 pub use wrong_words::tell_words;

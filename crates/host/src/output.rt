@@ -1,9 +1,12 @@
 //! Where answers go.
 ghost use Rattle.std.specs.Prelude.{[], ◌∷◌, ◌++◌, IfSome, OnErr, OnOk, ⊤};
 ghost use Rattle.std.specs.Io.KnownBytes.{Appends, Keeps};
+ghost use Rattle.host.specs.Requests.{WasRefused};
+ghost use Rattle.text.specs.Shown.{shown_name};
 
 use std::fmt;
-use std::io::{self, Write};
+use std::io::{self, ErrorKind, Write};
+use text::printable_byte;
 
 /// Where answers go. It may keep what is written until it is asked to send that on. `sends` and `refuses` are its own and relate it
 /// before and after such a call. So a contract over any such place says that nothing was kept, or that it refused.
@@ -54,5 +57,54 @@ impl<W: Write> Output for W {
 
     fn send(&mut self) -> io::Result<()> {
         self.flush()
+    }
+}
+
+/// Prints a name with `?` for each byte that isn't printable ASCII, so that it steers no terminal.
+pub fn print_name<W: Output>(out: &mut W, name: &str) -> io::Result<()>
+    ensures name { OnOk result (Appends (W.contents out.old) (W.contents out.new) (shown_name name.now)) }
+    ensures refused { OnErr result (WasRefused W.refuses out.new) }
+{
+    for byte in name.as_bytes() {
+        let shown = [printable_byte(*byte)];
+        out.put_bytes(&shown)?;
+    }
+    Ok(())
+}
+
+/// A stream that takes nothing after a write that it refused. So a buffer in front of it, which writes what it holds when it is dropped, adds
+/// nothing then.
+#[derive(Drop)]
+pub struct UntilRefused<W> {
+    inner: W,
+    is_refused: bool,
+}
+
+impl<W: Write> UntilRefused<W> {
+    /// Returns the stream before any write.
+    pub fn new(inner: W) -> UntilRefused<W> {
+        UntilRefused {
+            inner,
+            is_refused: false,
+        }
+    }
+}
+
+impl<W: Write> Write for UntilRefused<W> {
+    fn write(&mut self, buf: &[u8]) -> io::Result<usize> {
+        if self.is_refused {
+            return Err(io::Error::from(ErrorKind::BrokenPipe));
+        }
+        match self.inner.write(buf) {
+            Ok(count) => Ok(count),
+            Err(e) => {
+                self.is_refused = e.kind() != ErrorKind::Interrupted;
+                Err(e)
+            }
+        }
+    }
+
+    fn flush(&mut self) -> io::Result<()> {
+        self.inner.flush()
     }
 }

@@ -7,7 +7,6 @@ ghost use Rattle.host.specs.Requests.{TellsBeside, TellsLine};
 ghost use Rattle.text.specs.Shown.{IsTold};
 
 use crate::fault::Complaints;
-use crate::host_faults::FileError;
 use std::alloc::{AllocError, Global};
 use std::fmt;
 use text::{Explanation, Page, Writer, printable_byte};
@@ -22,13 +21,22 @@ const SHOWN: usize = WIDTH - 2 * DOTS.len();
 
 const DOTS: &[u8] = b"...";
 
-/// A place in a text.
+/// A place in a text. It is displayed as editors read it after the name of a file.
 #[derive(Clone, Copy, Debug, PartialEq, Eq)]
 pub struct Spot {
     /// From 1.
     pub line: usize,
     /// In bytes, from 1.
     pub column: usize,
+}
+
+impl fmt::Display for Spot {
+    ghost output = { λ s. Some (codes ":" ++ (decimal s.line ++ (codes ":" ++ (decimal s.column ++ codes ":")))) };
+
+    fn fmt<W: fmt::Write>(&self, f: &mut fmt::Formatter<W>) -> fmt::Result {
+        let (line, column) = (self.line, self.column);
+        write!(f, ":{line}:{column}:")
+    }
 }
 
 /// Returns the bytes before an offset; the whole text, if it is past the end.
@@ -53,6 +61,7 @@ fn bytes_in_line(text: &[u8], at: usize) -> usize
 pub fn spot_of(text: &[u8], at: usize) -> Spot
     ensures line { result.line ≡ line_at text.now at }
     ensures column { result.column ≡ column_at text.now at }
+    ensures fit { (result.line < 2 ^ 64) × (result.column < 2 ^ 64) }
 {
     let line_feeds = before(text, at)
         .iter()
@@ -99,7 +108,7 @@ fn dots(is_cut: bool) -> &'static [u8] {
     if is_cut { DOTS } else { b"" }
 }
 
-/// Adds what stands for these bytes.
+/// Adds what stands for these bytes of the text.
 fn add(quote: &mut Vec<u8>, bytes: &[u8], blank: bool) -> Result<(), AllocError>
     requires { All IsTold quote.old.items }
     ensures { All IsTold quote.new.items }
@@ -110,13 +119,13 @@ fn add(quote: &mut Vec<u8>, bytes: &[u8], blank: bool) -> Result<(), AllocError>
     Ok(())
 }
 
-/// Returns at most 160 bytes of the line in which the offset lies, and a line with a caret under the offset. Nothing at the text's end.
-fn quote_of(alloc: Global, text: &[u8], at: usize) -> Result<Vec<u8>, AllocError>
-    ensures { IfOk result (λ quote. All IsTold quote.items) }
+/// Adds at most 160 bytes of the line in which the offset lies, and a line with a caret under the offset. Nothing at the text's end.
+fn add_quote(quote: &mut Vec<u8>, text: &[u8], at: usize) -> Result<(), AllocError>
+    requires { All IsTold quote.old.items }
+    ensures { All IsTold quote.new.items }
 {
-    let mut quote = Vec::new(alloc);
     if at >= text.len() {
-        return Ok(quote);
+        return Ok(());
     }
     let start = at.saturating_sub(bytes_in_line(text, at));
     let end = (at..text.len()).find(|k| text.get(*k) == Some(&b'\n'));
@@ -129,14 +138,13 @@ fn quote_of(alloc: Global, text: &[u8], at: usize) -> Result<Vec<u8>, AllocError
         let from = at.saturating_sub(BEFORE).max(start).min(latest);
         (from, from.saturating_add(SHOWN).min(end))
     };
-    add(&mut quote, dots(start < from), false)?;
-    add(&mut quote, text.get(from..to).unwrap_or(b""), false)?;
-    add(&mut quote, dots(to < end), false)?;
-    add(&mut quote, b"\n", false)?;
-    add(&mut quote, dots(start < from), true)?;
-    add(&mut quote, text.get(from..at).unwrap_or(b""), true)?;
-    add(&mut quote, b"^\n", false)?;
-    Ok(quote)
+    add(quote, dots(start < from), false)?;
+    add(quote, text.get(from..to).unwrap_or(b""), false)?;
+    add(quote, dots(to < end), false)?;
+    add(quote, b"\n", false)?;
+    add(quote, dots(start < from), true)?;
+    add(quote, text.get(from..at).unwrap_or(b""), true)?;
+    add(quote, b"^\n", false)
 }
 
 /// Where a fault lies, and what is said of it.
@@ -158,32 +166,30 @@ fn put_hint(out: &mut Writer, hint: &[u8]) {
 }
 
 /// Returns the line with the file and what is wrong with it, and the hint.
-pub(crate) fn file_page(alloc: Global, about: &FileError<'_>) -> Result<Page, AllocError> {
+pub(crate) fn file_page(
+    alloc: Global,
+    file: &str,
+    message: &str,
+    hint: Option<&str>,
+) -> Result<Page, AllocError> {
     let mut out = Writer::new(alloc);
-    out.within_line(about.file.as_bytes());
+    out.within_line(file.as_bytes());
     out.text(": error: ");
-    out.within_line(about.message.as_bytes());
+    out.within_line(message.as_bytes());
     out.text("\n");
-    if let Some(hint) = about.hint {
+    if let Some(hint) = hint {
         put_hint(&mut out, hint.as_bytes());
     }
     out.end()
 }
 
-/// What is told below a fault: the place and the message, the line with its caret, the hint, and what else is wrong.
-#[derive(Drop)]
-struct Below {
-    head: Page,
-    quote: Vec<u8>,
-    rest: Page,
-}
-
-fn lines_below(alloc: Global, place: &Place<'_>, at: usize) -> Result<Below, AllocError>
-    ensures { IfOk result (λ below. All IsTold below.quote.items) }
+/// Returns what is told below a fault: the place and the message, the line with its caret, the hint, and what else is wrong.
+fn lines_below(alloc: Global, place: &Place<'_>, at: usize) -> Result<Vec<u8>, AllocError>
+    ensures { IfOk result (λ lines. All IsTold lines.items) }
 {
     let (mut head, mut rest) = (Writer::new(alloc), Writer::new(alloc));
     head.within_line(place.source.as_bytes());
-    head.put(&after_name(place.text, at));
+    head.put(&spot_of(place.text, at));
     if let Some(about) = &place.about {
         head.text(" error: ");
         head.within_line(about.message.as_slice());
@@ -196,12 +202,11 @@ fn lines_below(alloc: Global, place: &Place<'_>, at: usize) -> Result<Below, All
         }
     }
     head.text("\n");
-    let quote = quote_of(alloc, place.text, at)?;
-    Ok(Below {
-        head: head.end()?,
-        quote,
-        rest: rest.end()?,
-    })
+    let mut lines = Vec::new(alloc);
+    add(&mut lines, head.end()?.bytes(), false)?;
+    add_quote(&mut lines, place.text, at)?;
+    add(&mut lines, rest.end()?.bytes(), false)?;
+    Ok(lines)
 }
 
 /// Tells the line of a fault of a text. If it has a place, below come the place and what is said of it.
@@ -226,11 +231,7 @@ fn show_place<E: Complaints>(alloc: Global, err: &mut E, place: &Place<'_>, at: 
     ensures { TellsBeside E.tells err.old (All (All IsTold)) err.new }
 {
     match lines_below(alloc, place, at) {
-        Ok(below) => {
-            err.bytes(below.head.bytes());
-            err.bytes(below.quote.as_slice());
-            err.bytes(below.rest.bytes());
-        }
+        Ok(lines) => err.bytes(lines.as_slice()),
         Err(_) => tell_site(err, place, at),
     }
 }
@@ -242,30 +243,5 @@ fn tell_site<E: Complaints>(err: &mut E, place: &Place<'_>, at: usize)
     for byte in place.source.as_bytes() {
         err.bytes(&[printable_byte(*byte)]);
     }
-    err.line(&after_name(place.text, at));
-}
-
-/// A place as editors read it after the name of its file.
-#[derive(Clone, Copy)]
-struct AfterName {
-    line: usize,
-    column: usize,
-}
-
-fn after_name(text: &[u8], at: usize) -> AfterName
-    ensures line { result.line ≡ line_at text.now at }
-    ensures column { result.column ≡ column_at text.now at }
-    ensures fit { (result.line < 2 ^ 64) × (result.column < 2 ^ 64) }
-{
-    let Spot { line, column } = spot_of(text, at);
-    AfterName { line, column }
-}
-
-impl fmt::Display for AfterName {
-    ghost output = { λ s. Some (codes ":" ++ (decimal s.line ++ (codes ":" ++ (decimal s.column ++ codes ":")))) };
-
-    fn fmt<W: fmt::Write>(&self, f: &mut fmt::Formatter<W>) -> fmt::Result {
-        let (line, column) = (self.line, self.column);
-        write!(f, ":{line}:{column}:")
-    }
+    err.line(&spot_of(place.text, at));
 }

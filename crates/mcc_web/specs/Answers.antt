@@ -1,5 +1,5 @@
 -- What the exports give their host.
-use Rattle.std.specs.Prelude.{◌≡◌, ◌<◌, ◌≤◌, ℕ, List, ◌∷◌, ◌++◌, Bool, true, false, All, length, take}
+use Rattle.std.specs.Prelude.{◌≡◌, ◌≢◌, ◌<◌, ◌≤◌, ℕ, List, ◌∷◌, ◌++◌, Bool, true, false, All, length, take}
 use Rattle.text.specs.Shown.{IsShown}
 use Rattle.host.specs.OneFile.{FileMeaning}
 use Rattle.list_scheduler.specs.Proposals.{IsNoLonger}
@@ -9,7 +9,7 @@ use Rattle.driver.specs.BuildTexts.{build_fault_text}
 use Rattle.driver.specs.Builds.{IsPlain, IsScheduledBuild}
 use Rattle.driver.specs.BuildFaults.{IsBuildFault}
 use Rattle.driver.specs.Follows.{FollowsText}
-use Rattle.driver.specs.declared.build_command.builds.Built.{Built}
+use Rattle.driver.specs.declared.builds.Built.{Built}
 use Rattle.mcc_web.specs.declared.told.TheConstants.{REFUSED}
 
 -- a text of this length, at the front of what the host lent, where it fits; else that is as it was
@@ -43,6 +43,11 @@ pub record SaysAnswer {A B : Type 0} (m : FileMeaning A B) (bytes : List ℕ) (s
 -- the line of the bytes' fault
 abbrev pub SaysFaultOf : {A B : Type 0} → FileMeaning A B → (bytes : List ℕ) → (said : ℕ) → (old new : List ℕ) → Type 0
 SaysFaultOf m bytes = SaysFault (m.Faults bytes) m.line
+
+-- what an export gives of bytes by a command's status: what the command prints of their answer, or the line of their fault
+abbrev pub SaysAsCommand : {A B : Type 0} → FileMeaning A B → (bytes : List ℕ) → (status said : ℕ) → (old new : List ℕ) → Type 0
+SaysAsCommand m bytes status said old new = (status ≢ 1 → status ≢ REFUSED → SaysAnswer m bytes status said old new)
+    × (status ≡ 1 → SaysFaultOf m bytes said old new) × KeepsRefused status said old new
 
 -- with `plain` each block in its own order, else checked orders that are no longer; no block is missed
 abbrev pub IsScheduledAs : Bool → Built → Type 0

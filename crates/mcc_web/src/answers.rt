@@ -1,17 +1,22 @@
 //! The exports that print what a command prints.
 
-ghost use Rattle.std.specs.Prelude.{◌≡◌, ◌≢◌, ◌<◌, true, false};
+ghost use Rattle.std.specs.Prelude.{◌≡◌, ◌≢◌, true, false};
+ghost use Rattle.command_line.specs.declared.command.Level.TheVariants.{C};
 ghost use Rattle.host.specs.declared.numbers.WordForm.TheVariants.{Unsigned};
 ghost use Rattle.driver.specs.CheckCommand.{checking};
-ghost use Rattle.driver.specs.Program.{interpreting, listing_image, showing};
+ghost use Rattle.driver.specs.Levels.{interpreting};
+ghost use Rattle.driver.specs.Program.{listing_image, showing};
 ghost use Rattle.driver.specs.RunCommand.{running};
-ghost use Rattle.mcc_web.specs.Answers.{KeepsRefused, SaysAnswer, SaysFaultOf, SaysReason};
+ghost use Rattle.mcc_web.specs.Answers.{KeepsRefused, SaysAnswer, SaysAsCommand, SaysFaultOf, SaysReason};
 ghost use Rattle.mcc_web.specs.declared.told.TheConstants.{REFUSED};
 
 pub use crate::told::REFUSED;
 use crate::told::{Told, put, refuse};
-use driver::{CheckCommand, ImageCommand, InterpCommand, RunCommand, ShowCommand, wrong_page};
-use host::{BadFile, Broken, FileCommand, WordForm};
+use driver::{
+    AskedInterp, AskedRun, CheckCommand, ImageCommand, InterpCommand, Level, RunCommand,
+    ShowCommand, wrong_page,
+};
+use host::{Broken, FileCommand, ReadFile, WordForm};
 use show::Asked;
 use std::alloc::Global;
 use std::str;
@@ -27,17 +32,17 @@ fn give<C: FileCommand>(
 ) -> usize
     ensures answered { status.new ≢ 1 → status.new ≢ REFUSED → SaysAnswer (C.meaning command.now) bytes.now status.new result out.old out.new }
     ensures faulty { status.new ≡ 1 → SaysFaultOf (C.meaning command.now) bytes.now result out.old out.new }
-    ensures refused { C.most < REFUSED → KeepsRefused status.new result out.old out.new }
+    ensures refused { KeepsRefused status.new result out.old out.new }
 {
     let mut printed = Vec::new(alloc);
     match command.run(alloc, bytes, &mut printed) {
-        Ok(end) => {
-            *status = command.status_of(&end);
+        Ok((ends, _)) => {
+            *status = ends;
             put(out, printed.as_slice())
         }
-        Err(Broken::Faulty(fault)) => {
+        Err(Broken::Faulty(found)) => {
             let mut told = Told::new(alloc);
-            *status = command.tell(alloc, &BadFile { file, bytes, fault }, &mut told);
+            *status = command.tell(alloc, &ReadFile { file, bytes, found }, &mut told);
             told.give(out, status)
         }
         Err(Broken::Unprinted(_) | Broken::Midway) => refuse(status),
@@ -52,9 +57,7 @@ pub extern "C" fn mcc_web_check(
     out: &mut [u8],
     status: &mut u8,
 ) -> usize
-    ensures answered { status.new ≢ 1 → status.new ≢ REFUSED → SaysAnswer (checking false) text.now status.new result out.old out.new }
-    ensures faulty { status.new ≡ 1 → SaysFaultOf (checking false) text.now result out.old out.new }
-    ensures refused { KeepsRefused status.new result out.old out.new }
+    ensures { SaysAsCommand (checking false) text.now status.new result out.old out.new }
 {
     let command = CheckCommand { explain: false };
     give(alloc, &command, "order.check", text, out, status)
@@ -68,9 +71,7 @@ pub extern "C" fn mcc_web_explain(
     out: &mut [u8],
     status: &mut u8,
 ) -> usize
-    ensures answered { status.new ≢ 1 → status.new ≢ REFUSED → SaysAnswer (checking true) text.now status.new result out.old out.new }
-    ensures faulty { status.new ≡ 1 → SaysFaultOf (checking true) text.now result out.old out.new }
-    ensures refused { KeepsRefused status.new result out.old out.new }
+    ensures { SaysAsCommand (checking true) text.now status.new result out.old out.new }
 {
     let command = CheckCommand { explain: true };
     give(alloc, &command, "order.check", text, out, status)
@@ -86,19 +87,24 @@ pub extern "C" fn mcc_web_interp(
     out: &mut [u8],
     status: &mut u8,
 ) -> usize
-    ensures answered { status.new ≢ 1 → status.new ≢ REFUSED
-        → SaysAnswer (interpreting depth steps Unsigned false) text.now status.new result out.old out.new }
-    ensures faulty { status.new ≡ 1 → SaysFaultOf (interpreting depth steps Unsigned false) text.now result out.old out.new }
-    ensures refused { KeepsRefused status.new result out.old out.new }
+    ensures { SaysAsCommand (interpreting C depth steps Unsigned false) text.now status.new result out.old out.new }
 {
-    let command = InterpCommand {
+    let asked = AskedInterp {
         source: "program.c",
         depth,
         steps,
+        level: Level::C,
         form: WordForm::Unsigned,
         count: false,
     };
-    give(alloc, &command, "program.c", text, out, status)
+    give(
+        alloc,
+        &InterpCommand { asked },
+        asked.source,
+        text,
+        out,
+        status,
+    )
 }
 
 /// Where and why the run of the C program is wrong: what `mcc interp program.c` tells below `wrong`. The status is `REFUSED`, and
@@ -133,17 +139,22 @@ pub extern "C" fn mcc_web_run(
     out: &mut [u8],
     status: &mut u8,
 ) -> usize
-    ensures answered { status.new ≢ 1 → status.new ≢ REFUSED
-        → SaysAnswer (running steps Unsigned false) image.now status.new result out.old out.new }
-    ensures faulty { status.new ≡ 1 → SaysFaultOf (running steps Unsigned false) image.now result out.old out.new }
-    ensures refused { KeepsRefused status.new result out.old out.new }
+    ensures { SaysAsCommand (running steps Unsigned false) image.now status.new result out.old out.new }
 {
-    let command = RunCommand {
+    let asked = AskedRun {
+        image: "program.image",
         steps,
         form: WordForm::Unsigned,
         count: false,
     };
-    give(alloc, &command, "program.image", image, out, status)
+    give(
+        alloc,
+        &RunCommand { asked },
+        asked.image,
+        image,
+        out,
+        status,
+    )
 }
 
 /// The listing of the image: what `mcc list program.image` prints or tells, and its status.
@@ -154,9 +165,7 @@ pub extern "C" fn mcc_web_list(
     out: &mut [u8],
     status: &mut u8,
 ) -> usize
-    ensures answered { status.new ≢ 1 → status.new ≢ REFUSED → SaysAnswer (listing_image false) image.now status.new result out.old out.new }
-    ensures faulty { status.new ≡ 1 → SaysFaultOf (listing_image false) image.now result out.old out.new }
-    ensures refused { KeepsRefused status.new result out.old out.new }
+    ensures { SaysAsCommand (listing_image false) image.now status.new result out.old out.new }
 {
     let command = ImageCommand { asm: false };
     give(alloc, &command, "program.image", image, out, status)
@@ -182,9 +191,7 @@ pub extern "C" fn mcc_web_show(
     out: &mut [u8],
     status: &mut u8,
 ) -> usize
-    ensures answered { status.new ≢ 1 → status.new ≢ REFUSED → SaysAnswer showing text.now status.new result out.old out.new }
-    ensures faulty { status.new ≡ 1 → SaysFaultOf showing text.now result out.old out.new }
-    ensures refused { KeepsRefused status.new result out.old out.new }
+    ensures { SaysAsCommand showing text.now status.new result out.old out.new }
 {
     let asked = Asked {
         stage: name_of(stage),

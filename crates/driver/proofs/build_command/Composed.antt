@@ -19,7 +19,7 @@ use Rattle.mips_asm.specs.LayoutRuns.{RunsAs}
 use Rattle.sched_phase.specs.Schedules.{ScheduledParts}
 use Rattle.runs.specs.Refines.{Same, AtLeast, UpTo, Then}
 use Rattle.runs.proofs.Refines.{refinements_compose, in_pace, at_least_twice, at_least_up_to}
-use Rattle.driver.specs.declared.build_command.builds.Built.{Built}
+use Rattle.driver.specs.declared.builds.Built.{Built}
 use Rattle.driver.specs.Follows.{Follows}
 use Rattle.driver.specs.Halves.{IsRefinedBy, IsWritten}
 

@@ -9,10 +9,10 @@ use Rattle.mblock.proofs.PlainMeans.{each_plain_unit_has_its_orders}
 use Rattle.list_scheduler.specs.Proposals.{IsNoLonger}
 use Rattle.sched_phase.specs.Schedules.{ScheduledParts, no_counts}
 use Rattle.sched_phase.specs.Phases.{IsPhase}
-use Rattle.driver.specs.declared.build_command.builds.Built.{Built}
-use Rattle.driver.specs.declared.build_command.builds.BuildFault.{BuildFault}
-use Rattle.driver.specs.declared.build_command.builds.BuildFault.TheVariants as faults
-use Rattle.driver.specs.declared.build_command.builds.Limit.TheVariants as limits
+use Rattle.driver.specs.declared.builds.Built.{Built}
+use Rattle.driver.specs.declared.builds.BuildFault.{BuildFault}
+use Rattle.driver.specs.declared.builds.BuildFault.TheVariants as faults
+use Rattle.driver.specs.declared.builds.Limit.TheVariants as limits
 use Rattle.driver.specs.Follows.{FollowsText}
 use Rattle.driver.specs.Builds.{IsPlain}
 use Rattle.driver.specs.BuildCommand.{IsBuiltAs, IsUnbuilt}

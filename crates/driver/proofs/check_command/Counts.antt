@@ -1,12 +1,12 @@
 -- Of fewer than 2^64 files, what is kept of each count is the count.
 use Rattle.std.proofs.Common.{◌≡◌, ℕ, suc, ◌+◌, ◌<◌, ◌^◌, List, [], ◌∷◌, refl, length, arith}
 use Rattle.std.proofs.Math.Nat.{min-eq_left}
-use Rattle.driver.specs.declared.check_command.said.Said.{Said}
-use Rattle.driver.specs.declared.check_command.said.Said.TheVariants as says
-use Rattle.driver.specs.declared.check_command.verdicts.CheckAnswer.TheVariants as answers
+use Rattle.driver.specs.declared.several.Said.{Said}
+use Rattle.driver.specs.declared.several.Said.TheVariants as says
+use Rattle.driver.specs.declared.verdicts.CheckAnswer.TheVariants as answers
 use Rattle.driver.specs.FileLine.{kept_more}
 use Rattle.driver.specs.Several.{CheckedFile, count_said, no_totals, totals_after, totals_by, totals_of}
-use Rattle.driver.specs.declared.check_command.totals.Totals.{Totals}
+use Rattle.driver.specs.declared.several.Totals.{Totals}
 
 abbrev exact : ℕ → ℕ
 exact n = n + 1

@@ -18,8 +18,8 @@ use Rattle.driver.proofs.check_command.FaultsShown.{of_files}
 use Rattle.driver.specs.FileLine.{AreChecked, IsChecked, file_of, kept_more}
 use Rattle.driver.specs.Several.{BreaksOff, CheckedFile, ChecksAll, IsRight, faults_of, first_told, line_text, lines_of, no_totals, status_of, totals_after, totals_by, totals_text, worse}
 use Rattle.driver.specs.Several.BreaksOff.{breaks}
-use Rattle.driver.specs.declared.check_command.totals.Totals.{Totals}
-use Rattle.driver.specs.declared.check_command.said.FileLine.{FileLine}
+use Rattle.driver.specs.declared.several.Totals.{Totals}
+use Rattle.driver.specs.declared.several.FileLine.{FileLine}
 
 -- the first of the lines, the last of which was just told
 first_line : {E : Type 0} (tells : E → List ℕ → E → Type 0) (p q r : E) (lines : List (List ℕ)) → All (All IsTold) lines

@@ -7,8 +7,8 @@ use Rattle.text.specs.Shown.{IsTold}
 use Rattle.host.specs.Texts.{host_fault_text}
 use Rattle.host.proofs.Shown.{host_fault}
 use Rattle.driver.specs.CheckTexts.{check_fault_text}
-use Rattle.driver.specs.declared.check_command.said.Said.{Said}
-use Rattle.driver.specs.declared.check_command.said.Said.TheVariants as says
+use Rattle.driver.specs.declared.several.Said.{Said}
+use Rattle.driver.specs.declared.several.Said.TheVariants as says
 use Rattle.driver.proofs.check_command.Shown.{check_fault}
 use Rattle.driver.specs.Several.{CheckedFile, IsRight, IsSaid, faults_of, told_of}
 

@@ -6,8 +6,8 @@ use Rattle.block_text.specs.Lines.{lines_of}
 use Rattle.block_text.specs.Whole.{FailsAt}
 use Rattle.driver.specs.Checks.{IsCheckFault}
 use Rattle.driver.specs.CheckTexts.{check_fault_text}
-use Rattle.driver.specs.declared.check_command.verdicts.CheckFault.{CheckFault}
-use Rattle.driver.specs.declared.check_command.verdicts.CheckFault.TheVariants as faults
+use Rattle.driver.specs.declared.verdicts.CheckFault.{CheckFault}
+use Rattle.driver.specs.declared.verdicts.CheckFault.TheVariants as faults
 use Rattle.text.specs.Shown.{IsTold}
 use Rattle.host.proofs.Shown.{decimals, literal}
 

@@ -2,19 +2,44 @@
 use Rattle.std.proofs.Common.{◌≡◌, ℕ, ◌+◌, ◌-◌, ◌<◌, ◌≤◌, ◌≢◌, ◌++◌, List, [], Option, Some, None, refl, sym, ap, ◌∙◌, arith, inl, inr, ◌⊎◌, append_assoc}
 use Rattle.std.proofs.lemmas.Grind.{flat_map-append}
 use Rattle.std.proofs.KnownBytes.{Appends-nil, Appends-trans}
-use Rattle.std.specs.Prelude.{IfSome}
+use Rattle.std.specs.Prelude.{IfSome, true}
 use Rattle.std.specs.Io.KnownBytes.{Appends}
 use Rattle.runs.specs.Runs.{RunOutcome}
 use Rattle.runs.specs.Portions.{IsCount, WentOn, after_output, behind}
 use Rattle.runs.specs.declared.ran.Advance.{Advance}
 use Rattle.host.specs.declared.numbers.WordForm.{WordForm}
-use Rattle.host.specs.OneFile.{TookPrint}
-use Rattle.driver.specs.RunCommand.{AreFirstLines, IsLast, words_in}
+use Rattle.host.specs.OneFile.{BreaksBy, FileMeaning, IsRefused, TookPrint}
+use Rattle.host.specs.declared.fault.HostFault.{HostFault}
+use Rattle.host.specs.declared.one_file.Broken.{Broken}
+use Rattle.host.specs.declared.one_file.Broken.TheVariants.{Faulty, Unprinted, Midway}
+use Rattle.driver.specs.RunCommand.{AreFirstLines, CutsOff, IsLast, words_in}
 
 -- the lines of the first words, of the others, and a last line
-pub lines_on : (form : WordForm) (output printed line : List ℕ) (f : AreFirstLines form output printed)
+lines_on : (form : WordForm) (output printed line : List ℕ) (f : AreFirstLines form output printed)
     → printed ++ (words_in form f.rest ++ line) ≡ words_in form output ++ line
 lines_on form output printed line f = rw (f.lines, f.all, flat_map-append, append_assoc)
+
+-- a command over one file whose run was cut off
+pub cut_off : {A B : Type 0} (m : FileMeaning A B) (bytes : List ℕ) (a : A) (form : WordForm) (output line : List ℕ) (old new : Option (List ℕ))
+    (silent refused : Type 0) (e : Broken B) → m.Answers bytes a → m.streams ≡ true
+    → ((printed : List ℕ) → printed ≡ words_in form output ++ line → m.Prints a printed)
+    → ((fault : HostFault) → IsRefused fault → m.Unprinted fault) → CutsOff form output old new refused e → BreaksBy m bytes old new silent refused e
+cut_off m bytes a form output line old new silent refused (Faulty fault) answered streams prints unprinted cut = absurd cut
+cut_off m bytes a form output line old new silent refused (Unprinted fault) answered streams prints unprinted cut =
+    ((a, answered), unprinted fault cut.0, rw cut.0 cut.1)
+cut_off m bytes a form output line old new silent refused Midway answered streams prints unprinted cut = (
+  streams,
+  (
+    cut.0,
+    cut.1,
+    record {
+      answer = a;
+      answered = answered;
+      rest = words_in form cut.2.rest ++ line;
+      prints = prints _ (lines_on form output cut.0 line cut.2);
+    },
+  ),
+)
 
 below_or : (k m r : ℕ) → k < m + r → (k < m) ⊎ ((m ≤ k) × (k - m < r))
 below_or k m r lt = grind arith
@@ -123,7 +148,7 @@ module _ {S E : Type 0} {comes_to : S → ℕ → RunOutcome E} {more : E} {form
                   omega (arith, left);
             }
 
-        pub all_printed : (out' : Option (List ℕ)) (line : List ℕ) → Appends out out' (words_in form written ++ line)
-            → Appends start out' (words_in form (comes_to old most).output ++ line)
-        all_printed out' line took =
-            rw (whole, flat_map-append, append_assoc) (Appends-trans start out out' (words_in form b.first) (words_in form written ++ line) b.took took)
+        pub all_printed : (out' : Option (List ℕ)) → Appends out out' (words_in form written)
+            → Appends start out' (words_in form (comes_to old most).output)
+        all_printed out' took =
+            rw (whole, flat_map-append) (Appends-trans start out out' (words_in form b.first) (words_in form written) b.took took)

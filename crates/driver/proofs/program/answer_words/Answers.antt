@@ -8,7 +8,7 @@ use Rattle.driver.proofs.program.answer_words.Goals as goal
 pub returns-in-Ok-Check-clause-ran : goal.returns-in-Ok-Check-clause-ran
 returns-in-Ok-Check-clause-ran g c =
     of_answer c.in-Ok-Check.field-0-is c.in-Ok-Check.ensures.command c.in-Ok-Check.ensures.kinds
-    (omega (arith, c.check_file.ensures.possible.0)) c.check_file.ensures.possible.1 c.check_file.ensures.ran.ran
+    c.answer_file.ensures.most c.answer_file.ensures.not_wrong_words c.answer_file.ensures.ran.ran
 
 pub returns-in-Ok-CheckEach-clause-ran : goal.returns-in-Ok-CheckEach-clause-ran
 returns-in-Ok-CheckEach-clause-ran g c =
@@ -19,7 +19,7 @@ returns-in-Ok-CheckEach-clause-ran g c =
 pub returns-in-Ok-Interp-clause-ran : goal.returns-in-Ok-Interp-clause-ran
 returns-in-Ok-Interp-clause-ran g c =
     of_answer c.in-Ok-Interp.field-0-is c.in-Ok-Interp.ensures.command c.in-Ok-Interp.ensures.kinds
-    c.interp_at.ensures.most c.interp_at.ensures.not_wrong_words c.interp_at.ensures.ran.ran
+    c.answer_file-in-Ok-Interp.ensures.most c.answer_file-in-Ok-Interp.ensures.not_wrong_words c.answer_file-in-Ok-Interp.ensures.ran.ran
 
 pub returns-in-Ok-Build-clause-ran : goal.returns-in-Ok-Build-clause-ran
 returns-in-Ok-Build-clause-ran g c =
@@ -33,18 +33,18 @@ returns-in-Ok-Build-clause-ran g c =
 pub returns-in-Ok-Run-clause-ran : goal.returns-in-Ok-Run-clause-ran
 returns-in-Ok-Run-clause-ran g c =
     of_answer c.in-Ok-Run.field-0-is c.in-Ok-Run.ensures.command c.in-Ok-Run.ensures.kinds
-    c.run_file.ensures.most c.run_file.ensures.not_wrong_words c.run_file.ensures.ran.ran
+    c.answer_file-in-Ok-Run.ensures.most c.answer_file-in-Ok-Run.ensures.not_wrong_words c.answer_file-in-Ok-Run.ensures.ran.ran
 
 pub returns-in-Ok-List-clause-ran : goal.returns-in-Ok-List-clause-ran
 returns-in-Ok-List-clause-ran g c =
     of_answer c.in-Ok-List.field-0-is c.in-Ok-List.ensures.command c.in-Ok-List.ensures.kinds
-    (omega (arith, c.answer_file.ensures.most)) c.answer_file.ensures.not_wrong_words c.answer_file.ensures.ran.ran
+    c.answer_file-in-Ok-List.ensures.most c.answer_file-in-Ok-List.ensures.not_wrong_words c.answer_file-in-Ok-List.ensures.ran.ran
 
 pub returns-in-Ok-Show-clause-ran : goal.returns-in-Ok-Show-clause-ran
 returns-in-Ok-Show-clause-ran g c =
     let answer = c.answer_file-in-Ok-Show.ensures in
     of_answer c.in-Ok-Show.field-0-is c.in-Ok-Show.ensures.command c.in-Ok-Show.ensures.kinds
-    (omega (arith, answer.most)) answer.not_wrong_words answer.ran.ran
+    answer.most answer.not_wrong_words answer.ran.ran
 
 pub returns-in-Ok-NoChoice-clause-ran : goal.returns-in-Ok-NoChoice-clause-ran
 returns-in-Ok-NoChoice-clause-ran g c =

@@ -20,7 +20,7 @@ returns-in-Ok-run-clause-ran g c =
     let took = c.in-Ok-run.ensures.took in
     record {
       same = record { files = refl; out = refl; err = refl };
-      ran = ran_answered _ _ _ _ _ c.status_of.ensures.neither.0
+      ran = ran_answered _ _ _ _ _ c.in-Ok-run.ensures.possible.1
           (record {
             requests = _;
             printed = took.took.0;
@@ -34,8 +34,8 @@ returns-in-Ok-run-clause-ran g c =
               answer = took.answer;
               answered = took.answered;
               prints = took.took.2;
-              ends = rw c.status_of.ensures.status took.ends;
-              remarks = rw c.status_of.ensures.status c.remark.ensures.2;
+              ends = took.ends;
+              remarks = c.remark.ensures.2;
             };
           })
           c.in-Ok-run.ensures.sent;
@@ -47,7 +47,7 @@ returns-in-Err-Faulty-clause-ran g c =
     let broken = rw c.in-Err-Faulty.field-0-is at c.in-Err-Faulty.ensures.broken in
     on_host refl refl refl (ran_stopped _ _ _ _ _ c.tell.ensures.status (inl (asks_once _ _ _ (Read c.args.file.now bytes) _ _
     (read_as g.F.Files.answers _ _ _ _ bytes c.as_slice-bytes.ensures.value c.in-Ok.ensures.asked) c.tell.ensures.told
-    (faulty bytes c.in-Err-Faulty.fault broken.0 broken.1))))
+    (faulty bytes c.in-Err-Faulty.found broken.0 broken.1))))
 
 pub returns-in-Err-Unprinted-clause-ran : goal.returns-in-Err-Unprinted-clause-ran
 returns-in-Err-Unprinted-clause-ran g c =

@@ -6,4 +6,4 @@ loop-byte-preserved g c = told_too g.E.Complaints.tells _ _ _ _ c.loop-byte.inva
 
 pub returns : goal.returns
 returns g c = told_too g.E.Complaints.tells _ _ _ _ c.loop-byte.invariant c.line.ensures
-    (place_line _ _ c.after_name.ensures.fit.0 c.after_name.ensures.fit.1)
+    (place_line _ _ c.spot_of.ensures.fit.0 c.spot_of.ensures.fit.1)

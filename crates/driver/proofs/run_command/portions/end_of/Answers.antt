@@ -1,4 +1,0 @@
-use Rattle.driver.proofs.run_command.portions.end_of.Goals as goal
-
-pub returns-in-Some-clause-last : goal.returns-in-Some-clause-last
-returns-in-Some-clause-last g c = λ n at. rw c.in-Some.is
