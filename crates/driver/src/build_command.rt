@@ -97,17 +97,8 @@ fn tell_limit<E: Complaints>(alloc: Global, err: &mut E, text: &[u8], limit: Lim
     }
 }
 
-/// Tells the line of a build's fault, and below it where it lies and what is said of it, or what the limit is about.
-pub fn tell_build<E: Complaints>(
-    alloc: Global,
-    err: &mut E,
-    source: &str,
-    text: &[u8],
-    fault: BuildFault,
-) -> u8
-    ensures status { result ≡ 1 }
-    ensures told { TellsLine E.tells err.old (build_fault_text fault) err.new }
-{
+/// Returns where the fault of a text lies, and what is said of it. Other faults have no place.
+fn place_of<'a>(alloc: Global, source: &'a str, text: &'a [u8], fault: BuildFault) -> Place<'a> {
     let mut place = Place {
         source,
         text,
@@ -120,7 +111,24 @@ pub fn tell_build<E: Complaints>(
             place.about = explain(alloc, text, found).ok();
         }
     }
+    place
+}
+
+/// Tells the line of a build's fault, and below it where it lies and what is said of it, or what the limit is about.
+pub fn tell_build<E: Complaints>(
+    alloc: Global,
+    err: &mut E,
+    source: &str,
+    text: &[u8],
+    fault: BuildFault,
+) -> u8
+    ensures status { result ≡ 1 }
+    ensures told { TellsLine E.tells err.old (build_fault_text fault) err.new }
+{
+    let place = place_of(alloc, source, text, fault);
     let status = tell_placed(alloc, err, &fault, &place);
+    // what is said of the fault is let go before a limit's line
+    drop(place);
     if let BuildFault::Limit(limit) = fault {
         tell_limit(alloc, err, text, limit);
     }
